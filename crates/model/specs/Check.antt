@@ -1,0 +1,84 @@
+-- Document 01, 'What a step does to claims' and 'Turned back': what each point owes, refusals 12 to 14, and the checker's answer.
+-- Every point owes the same, reached or not: first that its divisor or access is safe by what is known at the point itself,
+-- then, along each of its edges, the claims of the point that the edge leads to, in the order of their lines.
+use Prim.Native.Nat.{ℕ, zero, suc, _+_, _*_}
+use mathlib.Core.Bool.{Bool, true, false, _&&_, _||_, cond}
+use mathlib.Core.List.{List, [], _∷_}
+use lib.ListN.{length}
+use lib.Dec.{leb, eqb}
+use Rattle.model.specs.Types.{Width, Table, Results, Operand, Instruction, Stop, Setc, Copy, Addw, Subw, Mulw, Divf, Load, Stor, Jump, Bltu, Bequ, Edge, DivisorMayBeZero, AccessMayLeave, ClaimMayFail, Judgement, Accepted, refused, Verdict, Passed, turnedBack}
+use Rattle.model.specs.Limits.{blankVariable, greatestLinks}
+use Rattle.model.specs.Answers.{_andThen_}
+use Rattle.model.specs.Facts.{Facts, factsOf, lo, hi}
+use Rattle.model.specs.Listing.{Point, pointAt, firstLine, Listing, readAs, unreadable, listingOf}
+use Rattle.model.specs.Machine.{bytesOf, sizeVariable}
+use Rattle.model.specs.Transfer.{edges, leadsTo, operandRange, stripe, factsAlong}
+use Rattle.model.specs.Follows.{follows, lostAlong}
+
+-- the divisor is a number above 0, or its low end is at least 1
+abbrev pub divisorSafe : Facts → Operand → Bool
+divisorSafe f o = leb 1 (operandRange (f .ranges) o .lo)
+
+-- the access lies inside its table: a × hi(i) + k + w ≤ lo(size), or size − a × i ≥ k + w follows
+abbrev pub accessSafe : Facts → Table → Width → ℕ → ℕ → ℕ → Bool
+accessSafe f b w a i k =
+    leb (a * hi (f .ranges) i + k + bytesOf w) (lo (f .ranges) (sizeVariable b))
+    || follows f greatestLinks (stripe (sizeVariable b) a i blankVariable (k + bytesOf w) 0)
+
+-- 12 and 13: the point's own safety
+unfoldable pub safetyJudged : ℕ → Facts → Instruction → Judgement
+unfolding follows
+safetyJudged l f Stop = Accepted
+safetyJudged l f (Setc d c) = Accepted
+safetyJudged l f (Copy d i) = Accepted
+safetyJudged l f (Addw d i o) = Accepted
+safetyJudged l f (Subw d i o) = Accepted
+safetyJudged l f (Mulw d i o) = Accepted
+safetyJudged l f (Divf d i o) = cond (divisorSafe f o) Accepted (refused (DivisorMayBeZero l))
+safetyJudged l f (Load d w b a i k) = cond (accessSafe f b w a i k) Accepted (refused (AccessMayLeave l))
+safetyJudged l f (Stor v w a i k) = cond (accessSafe f Results w a i k) Accepted (refused (AccessMayLeave l))
+safetyJudged l f (Jump t) = Accepted
+safetyJudged l f (Bltu i t o) = Accepted
+safetyJudged l f (Bequ i t o) = Accepted
+
+-- 14: the claims of a point q follow from what is known along an edge to it; l is the line of the instruction
+abbrev pub claimsJudged : ℕ → Facts → Point → Judgement
+claimsJudged l f q = let lost = lostAlong f (firstLine q) (q .claims) in cond (eqb lost 0) Accepted (refused (ClaimMayFail l lost))
+
+-- the same for each of some edges of point p, in order
+abbrev pub edgesJudged : List Point → ℕ → List Edge → Judgement
+edgesJudged ps p [] = Accepted
+edgesJudged ps p (e ∷ es) =
+    claimsJudged (pointAt ps p .line) (factsAlong e (pointAt ps p .instruction) (factsOf (pointAt ps p .claims))) (pointAt ps (leadsTo p e))
+    andThen edgesJudged ps p es
+
+-- everything that point p owes, in order
+unfoldable pub pointJudged : List Point → ℕ → Judgement
+unfolding safetyJudged factsOf factsAlong lostAlong
+pointJudged ps p =
+    safetyJudged (pointAt ps p .line) (factsOf (pointAt ps p .claims)) (pointAt ps p .instruction)
+    andThen edgesJudged ps p (edges (pointAt ps p .instruction))
+
+-- the first n points, in order
+unfoldable pub pointsJudged : List Point → ℕ → Judgement
+unfolding pointJudged
+pointsJudged ps zero = Accepted
+pointsJudged ps (suc n) = pointsJudged ps n andThen pointJudged ps n
+
+-- 12 to 14 over all points of a listing that is read
+abbrev pub listingJudged : Listing → Judgement
+listingJudged (readAs ps) = pointsJudged ps (length ps)
+listingJudged (unreadable r) = refused r
+
+abbrev pub verdictFrom : ℕ → Judgement → Verdict
+verdictFrom n Accepted = Passed n
+verdictFrom n (refused r) = turnedBack r
+
+abbrev pub verdictOf : Listing → Verdict
+verdictOf (readAs ps) = verdictFrom (length ps) (listingJudged (readAs ps))
+verdictOf (unreadable r) = turnedBack r
+
+-- the checker's answer
+unfoldable pub check : List ℕ → Verdict
+unfolding listingOf pointsJudged
+check s = verdictOf (listingOf s)

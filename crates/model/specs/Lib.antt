@@ -1,0 +1,16 @@
+pub mod Types
+pub mod Limits
+pub mod Lists
+pub mod Text
+pub mod Words
+pub mod Answers
+pub mod Lines
+pub mod Facts
+pub mod Listing
+pub mod Machine
+pub mod Transfer
+pub mod Follows
+pub mod Check
+pub mod Run
+pub mod Output
+pub mod Cases

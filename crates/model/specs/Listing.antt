@@ -1,0 +1,191 @@
+-- Document 01, 'Claims' and 'Turned back': from the lines of a listing to its points, refusals 1 and 6 to 11, and the claim lines of a point.
+-- The lines are read from the first on; the first refusal stays. 7 to 11 are tested over the whole once every line is read.
+use Prim.Native.Nat.{ℕ, zero, suc, _+_, _*_, _-_, _/_, _%_}
+use mathlib.Core.Bool.{Bool, true, false, _&&_, cond}
+use mathlib.Core.List.{List, [], _∷_, _++_}
+use lib.ListN.{length, getD, take, drop}
+use lib.Dec.{leb, ltb, eqb}
+use Rattle.model.specs.Types.{Instruction, Stop, Setc, Copy, Addw, Subw, Mulw, Divf, Load, Stor, Jump, Bltu, Bequ, Claim, Leas, Most, Strp, Line, refusedLine, claimLine, instructionLine, Refusal, ListingLength, ClaimOrder, LastLineClaim, TooManyPoints, NoSuchTarget, NoEnd, EmptyStart, NoSuchPoint, Judgement, Accepted, refused}
+use Rattle.model.specs.Limits.{lineBytes, greatestListing, greatestPoints, greatestStripes}
+use Rattle.model.specs.Answers.{_andThen_}
+use Rattle.model.specs.Lines.{readLine}
+use Rattle.model.specs.Facts.{factsOf, nonEmpty}
+
+-- a point: its instruction, the instruction's line counted from 1, and the claims of the lines just before it
+pub record Point : Type 0 where
+  pub line : ℕ
+  pub claims : List Claim
+  pub instruction : Instruction
+
+-- the line of a point's first claim
+abbrev pub firstLine : Point → ℕ
+firstLine q = q .line - length (q .claims)
+
+-- line k of a listing, counted from 0
+abbrev pub lineAt : List ℕ → ℕ → List ℕ
+lineAt s k = take lineBytes (drop (k * lineBytes) s)
+
+-- a claim may stand right after another: LEAS lines by rising variable, then MOST lines by rising variable, then STRP lines
+abbrev pub mayFollow : Claim → Claim → Bool
+mayFollow (Leas u m) (Leas v n) = ltb u v
+mayFollow (Leas u m) (Most v n) = true
+mayFollow (Leas u m) (Strp s) = true
+mayFollow (Most u m) (Leas v n) = false
+mayFollow (Most u m) (Most v n) = ltb u v
+mayFollow (Most u m) (Strp s) = true
+mayFollow (Strp q) (Leas v n) = false
+mayFollow (Strp q) (Most v n) = false
+mayFollow (Strp q) (Strp s) = true
+
+-- a claim may stand after the last of some
+abbrev pub mayFollowAll : List Claim → Claim → Bool
+mayFollowAll [] c = true
+mayFollowAll (b ∷ []) c = mayFollow b c
+mayFollowAll (a ∷ (b ∷ bs)) c = mayFollowAll (b ∷ bs) c
+
+-- the number of stripes among some claims
+abbrev pub stripesAmong : List Claim → ℕ
+stripesAmong [] = 0
+stripesAmong (Leas v n ∷ cs) = stripesAmong cs
+stripesAmong (Most v n ∷ cs) = stripesAmong cs
+stripesAmong (Strp s ∷ cs) = stripesAmong cs + 1
+
+-- 6: a claim stands in order after those before it, and is no ninth stripe
+abbrev pub inOrder : List Claim → Claim → Bool
+inOrder cs c = mayFollowAll cs c && leb (stripesAmong (c ∷ cs)) greatestStripes
+
+-- what is read so far: the points, and the claims since the last of them; or the first refusal
+pub data Reading : Type 0 where
+  going : List Point → List Claim → Reading
+  turned : Refusal → Reading
+
+-- one line more, the k-th counted from 0
+abbrev pub afterLine : Reading → ℕ → Line → Reading
+afterLine (turned r) k l = turned r
+afterLine (going ps cs) k (refusedLine r) = turned r
+afterLine (going ps cs) k (claimLine c) = cond (inOrder cs c) (going ps (cs ++ (c ∷ []))) (turned (ClaimOrder (k + 1)))
+afterLine (going ps cs) k (instructionLine i) = going (ps ++ (record { line = k + 1; claims = cs; instruction = i } ∷ [])) []
+
+-- the first n lines
+unfoldable pub readTo : List ℕ → ℕ → Reading
+unfolding readLine
+readTo s zero = going [] []
+readTo s (suc n) = afterLine (readTo s n) n (readLine (n + 1) (lineAt s n))
+
+-- the points that an instruction names as targets
+abbrev pub targets : Instruction → List ℕ
+targets Stop = []
+targets (Setc d c) = []
+targets (Copy d i) = []
+targets (Addw d i o) = []
+targets (Subw d i o) = []
+targets (Mulw d i o) = []
+targets (Divf d i o) = []
+targets (Load d w b a i k) = []
+targets (Stor v w a i k) = []
+targets (Jump t) = t ∷ []
+targets (Bltu i t o) = t ∷ []
+targets (Bequ i t o) = t ∷ []
+
+-- an instruction that may go on to the next point: any but STOP and JUMP
+abbrev pub goesOn : Instruction → Bool
+goesOn Stop = false
+goesOn (Setc d c) = true
+goesOn (Copy d i) = true
+goesOn (Addw d i o) = true
+goesOn (Subw d i o) = true
+goesOn (Mulw d i o) = true
+goesOn (Divf d i o) = true
+goesOn (Load d w b a i k) = true
+goesOn (Stor v w a i k) = true
+goesOn (Jump t) = false
+goesOn (Bltu i t o) = true
+goesOn (Bequ i t o) = true
+
+-- point p; past the last a STOP without claims
+abbrev pub pointAt : List Point → ℕ → Point
+pointAt ps p = getD ps p (record { line = 0; claims = []; instruction = Stop })
+
+-- 7: no claim is left without its instruction
+abbrev pub endsWithInstruction : ℕ → List Claim → Judgement
+endsWithInstruction lines [] = Accepted
+endsWithInstruction lines (c ∷ cs) = refused (LastLineClaim lines)
+
+-- 8: there are at most 512 points
+abbrev pub fewPoints : List Point → Judgement
+fewPoints ps = cond (leb (length ps) greatestPoints) Accepted (refused (TooManyPoints (pointAt ps greatestPoints .line)))
+
+-- 9: every target is a point of the listing, of which there are n
+abbrev pub targetsExist : ℕ → ℕ → List ℕ → Judgement
+targetsExist n l [] = Accepted
+targetsExist n l (t ∷ ts) = cond (ltb t n) Accepted (refused (NoSuchTarget l)) andThen targetsExist n l ts
+
+abbrev pub allTargetsExist : ℕ → List Point → Judgement
+allTargetsExist n [] = Accepted
+allTargetsExist n (q ∷ qs) = targetsExist n (q .line) (targets (q .instruction)) andThen allTargetsExist n qs
+
+-- 10: the last instruction is STOP or JUMP
+abbrev pub endsInPlace : ℕ → List Point → Judgement
+endsInPlace lines ps = cond (goesOn (pointAt ps (length ps - 1) .instruction)) (refused (NoEnd lines)) Accepted
+
+-- 11: no range of point 0 is empty
+abbrev pub startsNonEmpty : List Point → Judgement
+startsNonEmpty ps = cond (nonEmpty (factsOf (pointAt ps 0 .claims) .ranges)) Accepted (refused (EmptyStart (pointAt ps 0 .line)))
+
+-- 7 to 11, in order
+unfoldable pub wholeJudged : ℕ → List Point → List Claim → Judgement
+unfolding factsOf nonEmpty
+wholeJudged lines ps cs =
+    endsWithInstruction lines cs andThen fewPoints ps andThen allTargetsExist (length ps) ps andThen endsInPlace lines ps andThen startsNonEmpty ps
+
+-- a listing is read as its points, or turned back by one of 1 to 11
+pub data Listing : Type 0 where
+  readAs : List Point → Listing
+  unreadable : Refusal → Listing
+
+abbrev pub listingOr : Judgement → List Point → Listing
+listingOr Accepted ps = readAs ps
+listingOr (refused r) ps = unreadable r
+
+abbrev pub listingFrom : ℕ → Reading → Listing
+listingFrom lines (turned r) = unreadable r
+listingFrom lines (going ps cs) = listingOr (wholeJudged lines ps cs) ps
+
+-- 1: the listing has at least one line and whole lines, and is not too long
+unfoldable pub goodLength : ℕ → Bool
+goodLength n = leb 1 n && leb n greatestListing && eqb (n % lineBytes) 0
+
+-- a listing, read
+unfoldable pub listingOf : List ℕ → Listing
+unfolding goodLength readTo wholeJudged
+listingOf s =
+    let lines = length s / lineBytes in
+    let read = listingFrom lines (readTo s lines) in
+    cond (goodLength (length s)) read (unreadable ListingLength)
+
+-- the points of a listing; none where it is turned back
+abbrev pub pointsOf : Listing → List Point
+pointsOf (readAs ps) = ps
+pointsOf (unreadable r) = []
+
+-- 16: the point exists
+abbrev pub pointExists : List Point → ℕ → Judgement
+pointExists ps p = cond (ltb p (length ps)) Accepted (refused NoSuchPoint)
+
+-- the call for claim lines tests 1 to 11, then 16
+abbrev pub claimLinesJudged : Listing → ℕ → Judgement
+claimLinesJudged (readAs ps) p = pointExists ps p
+claimLinesJudged (unreadable r) p = refused r
+
+-- the part of the listing that holds the claim lines of a point
+abbrev pub claimPart : List ℕ → Point → List ℕ
+claimPart s q = take (length (q .claims) * lineBytes) (drop ((firstLine q - 1) * lineBytes) s)
+
+abbrev pub partOr : Judgement → List ℕ → List ℕ
+partOr Accepted l = l
+partOr (refused r) l = []
+
+-- the claim lines of point p as a part of the listing, empty on refusal
+unfoldable pub claimLines : List ℕ → ℕ → List ℕ
+unfolding listingOf
+claimLines s p = partOr (claimLinesJudged (listingOf s) p) (claimPart s (pointAt (pointsOf (listingOf s)) p))

@@ -1,0 +1,153 @@
+-- Document 01, 'The machine': what a step makes of a state and the tables.
+-- A configuration is a state with the bytes of both tables, so that it is a fact about the step, and no matter of notation, that the trays stay as they are.
+-- The error state is a case of its own, and so is standing at STOP, which makes no step.
+use Prim.Native.Nat.{ℕ, zero, suc, _+_, _*_, _-_, _/_, _%_}
+use mathlib.Core.Bool.{Bool, true, false, cond}
+use mathlib.Core.List.{List, [], _∷_, _++_}
+use lib.ListN.{length, getD, set}
+use lib.Dec.{leb, ltb, eqb}
+use Rattle.model.specs.Types.{Width, One, Two, Four, Table, Trays, Results, Operand, variable, number, Instruction, Stop, Setc, Copy, Addw, Subw, Mulw, Divf, Load, Stor, Jump, Bltu, Bequ, State}
+use Rattle.model.specs.Limits.{registers, modulus}
+use Rattle.model.specs.Facts.{valueAt}
+use Rattle.model.specs.Listing.{Point, pointAt}
+
+-- a configuration: a point, the registers, and the bytes of the tables
+pub record Config : Type 0 where
+  pub point : ℕ
+  pub registers : List ℕ
+  pub trays : List ℕ
+  pub results : List ℕ
+
+-- a state with the tables lent to a run, and the state of a configuration
+abbrev pub configOf : State → List ℕ → List ℕ → Config
+configOf s ts rs = record { point = s .point; registers = s .registers; trays = ts; results = rs }
+
+abbrev pub stateOf : Config → State
+stateOf c = record { point = c .point; registers = c .registers }
+
+-- the values of all variables, from the registers and the sizes of the tables
+abbrev pub valuesFrom : List ℕ → ℕ → ℕ → List ℕ
+valuesFrom rs n m = rs ++ (n ∷ m ∷ [])
+
+abbrev pub values : Config → List ℕ
+values c = valuesFrom (c .registers) (length (c .trays)) (length (c .results))
+
+-- the value of a variable, and of an operand
+abbrev pub valueOf : Config → ℕ → ℕ
+valueOf c v = valueAt (values c) v
+
+abbrev pub operandValue : Config → Operand → ℕ
+operandValue c (variable v) = valueOf c v
+operandValue c (number n) = n
+
+-- the number of bytes of a width
+abbrev pub bytesOf : Width → ℕ
+bytesOf One = 1
+bytesOf Two = 2
+bytesOf Four = 4
+
+-- the bytes of a table, and the variable that is its size
+abbrev pub tableOf : Table → Config → List ℕ
+tableOf Trays c = c .trays
+tableOf Results c = c .results
+
+abbrev pub sizeVariable : Table → ℕ
+sizeVariable Trays = registers
+sizeVariable Results = registers + 1
+
+-- w bytes from an address on as a number, least significant first
+unfoldable pub readBytes : ℕ → List ℕ → ℕ → ℕ
+readBytes zero l at = 0
+readBytes (suc w) l at = getD l at 0 + 256 * readBytes w l (at + 1)
+
+-- the low w bytes of a number set from an address on, least significant first
+unfoldable pub writeBytes : ℕ → List ℕ → ℕ → ℕ → List ℕ
+writeBytes zero l at x = l
+writeBytes (suc w) l at x = writeBytes w (set l at (x % 256)) (at + 1) (x / 256)
+
+-- sums, differences and products as registers hold them
+abbrev pub sum : ℕ → ℕ → ℕ
+sum x y = (x + y) % modulus
+
+abbrev pub difference : ℕ → ℕ → ℕ
+difference x y = (x + (modulus - y)) % modulus
+
+abbrev pub product : ℕ → ℕ → ℕ
+product x y = x * y % modulus
+
+-- the quotient of DIVF, rounded down
+abbrev pub quotient : ℕ → ℕ → ℕ
+quotient x y = x / y
+
+-- the address of an access, which never wraps
+abbrev pub address : ℕ → ℕ → ℕ → ℕ
+address a x k = a * x + k
+
+-- on to the next point with one register written, and on to another point
+abbrev pub wrote : Config → ℕ → ℕ → Config
+wrote c d x = record { point = c .point + 1; registers = set (c .registers) d x; trays = c .trays; results = c .results }
+
+abbrev pub went : Config → ℕ → Config
+went c p = record { point = p; registers = c .registers; trays = c .trays; results = c .results }
+
+-- on to the next point with bytes of the results written
+abbrev pub stored : Config → List ℕ → Config
+stored c rs = record { point = c .point + 1; registers = c .registers; trays = c .trays; results = rs }
+
+-- what comes of a step: a configuration, nothing at STOP, or the error state
+pub data Step : Type 0 where
+  next : Config → Step
+  stopped : Step
+  errorState : Step
+
+-- the step, if the access lies inside its table
+abbrev pub inside : ℕ → Width → List ℕ → Config → Step
+inside at w l c = cond (leb (at + bytesOf w) (length l)) (next c) errorState
+
+-- the step of each instruction
+unfoldable pub stepOf : Instruction → Config → Step
+unfolding readBytes writeBytes
+stepOf Stop c = stopped
+stepOf (Setc d x) c = next (wrote c d x)
+stepOf (Copy d i) c = next (wrote c d (valueOf c i))
+stepOf (Addw d i o) c = next (wrote c d (sum (valueOf c i) (operandValue c o)))
+stepOf (Subw d i o) c = next (wrote c d (difference (valueOf c i) (operandValue c o)))
+stepOf (Mulw d i o) c = next (wrote c d (product (valueOf c i) (operandValue c o)))
+stepOf (Divf d i o) c =
+    cond (eqb (operandValue c o) 0) errorState (next (wrote c d (quotient (valueOf c i) (operandValue c o))))
+stepOf (Load d w b a i k) c =
+    inside (address a (valueOf c i) k) w (tableOf b c) (wrote c d (readBytes (bytesOf w) (tableOf b c) (address a (valueOf c i) k)))
+stepOf (Stor v w a i k) c =
+    inside (address a (valueOf c i) k) w (c .results) (stored c (writeBytes (bytesOf w) (c .results) (address a (valueOf c i) k) (valueOf c v)))
+stepOf (Jump t) c = next (went c t)
+stepOf (Bltu i t o) c = next (went c (cond (ltb (valueOf c i) (operandValue c o)) t (c .point + 1)))
+stepOf (Bequ i t o) c = next (went c (cond (eqb (valueOf c i) (operandValue c o)) t (c .point + 1)))
+
+-- the instruction at a configuration's point, and its step
+abbrev pub instructionAt : List Point → Config → Instruction
+instructionAt ps c = pointAt ps (c .point) .instruction
+
+abbrev pub stepAt : List Point → Config → Step
+stepAt ps c = stepOf (instructionAt ps c) c
+
+-- where the machine is after some steps: at a configuration, or in the error state
+pub data Machine : Type 0 where
+  at : Config → Machine
+  failed : Machine
+
+-- the configuration after a step; at STOP the same
+abbrev pub settled : Config → Step → Machine
+settled c (next d) = at d
+settled c stopped = at c
+settled c errorState = failed
+
+-- one step on; the error state stays
+abbrev pub onward : List Point → Machine → Machine
+onward ps (at c) = settled c (stepAt ps c)
+onward ps failed = failed
+
+-- k steps
+unfoldable pub steps : List Point → ℕ → Machine → Machine
+unfolding stepOf
+steps ps zero m = m
+steps ps (suc k) m = onward ps (steps ps k m)

@@ -1,0 +1,220 @@
+-- Document 01, 'What a step does to claims': the ranges and the stripes along each edge of an instruction.
+-- The new ends of all ranges are computed from the ends before the step. Ends are whole numbers; where one falls below 0 the range is
+-- written as one that holds nothing, since only its emptiness counts: an edge with an empty range is impossible.
+use Prim.Native.Nat.{ℕ, _+_, _*_, _-_, _^_, min, max}
+use mathlib.Core.Bool.{Bool, true, false, not, _&&_, _||_, cond}
+use mathlib.Core.List.{List, [], _∷_, _++_, map}
+use lib.ListN.{set}
+use lib.Dec.{leb, ltb, eqb}
+use Rattle.model.specs.Types.{Operand, variable, number, Instruction, Stop, Setc, Copy, Addw, Subw, Mulw, Divf, Load, Stor, Jump, Bltu, Bequ, Edge, Next, Target, Range, Stripe}
+use Rattle.model.specs.Limits.{MAX, blankVariable, greatestScale, greatestBound}
+use Rattle.model.specs.Lists.{kept}
+use Rattle.model.specs.Facts.{between, exactly, registerRange, Facts, rangeOf, nonEmpty}
+use Rattle.model.specs.Listing.{targets, goesOn}
+use Rattle.model.specs.Machine.{bytesOf, quotient}
+
+-- the edges of an instruction: to the next point, then to the target
+abbrev pub edges : Instruction → List Edge
+edges i = cond (goesOn i) (Next ∷ []) [] ++ map Target (targets i)
+
+-- where an edge leads from point p
+abbrev pub leadsTo : ℕ → Edge → ℕ
+leadsTo p Next = p + 1
+leadsTo p (Target t) = t
+
+-- ranges
+
+-- a range that holds nothing
+abbrev pub nothing : Range
+nothing = between 1 0
+
+-- the range of an operand; both ends of a number are the number
+abbrev pub operandRange : List Range → Operand → Range
+operandRange rs (variable v) = rangeOf rs v
+operandRange rs (number c) = exactly c
+
+-- ends added, where no sum wraps
+abbrev pub sumFits : Range → Range → Bool
+sumFits r q = leb (r .hi + q .hi) MAX
+
+abbrev pub sumRange : Range → Range → Range
+sumRange r q = between (r .lo + q .lo) (r .hi + q .hi)
+
+-- lo(i) − hi(o) to hi(i) − lo(o), where no difference wraps; nothing where the high end falls below 0
+abbrev pub differenceFits : Range → Range → Bool
+differenceFits r q = leb (q .hi) (r .lo)
+
+abbrev pub differenceRange : Range → Range → Range
+differenceRange r q = cond (leb (q .lo) (r .hi)) (between (r .lo - q .hi) (r .hi - q .lo)) nothing
+
+-- ends multiplied, where no product wraps
+abbrev pub productFits : Range → Range → Bool
+productFits r q = leb (r .hi * q .hi) MAX
+
+abbrev pub productRange : Range → Range → Range
+productRange r q = between (r .lo * q .lo) (r .hi * q .hi)
+
+-- lo(i) by hi(o) to hi(i) by the larger of lo(o) and 1; nothing where hi(o) is 0
+abbrev pub quotientRange : Range → Range → Range
+quotientRange r q = cond (eqb (q .hi) 0) nothing (between (quotient (r .lo) (q .hi)) (quotient (r .hi) (max (q .lo) 1)))
+
+-- the high end at most one less than e, the low end at least e, the high end at most e
+abbrev pub below : ℕ → Range → Range
+below e r = cond (eqb e 0) nothing (between (r .lo) (min (r .hi) (e - 1)))
+
+abbrev pub atLeast : ℕ → Range → Range
+atLeast e r = between (max (r .lo) e) (r .hi)
+
+abbrev pub atMost : ℕ → Range → Range
+atMost e r = between (r .lo) (min (r .hi) e)
+
+-- what two ranges share
+abbrev pub overlap : Range → Range → Range
+overlap r q = between (max (r .lo) (q .lo)) (min (r .hi) (q .hi))
+
+-- an end equal to c moved inward by 1; a high end of −1 may stand as 0, since the low end is then at least 1
+abbrev pub without : ℕ → Range → Range
+without c r = between (cond (eqb (r .lo) c) (c + 1) (r .lo)) (cond (eqb (r .hi) c) (c - 1) (r .hi))
+
+-- one variable's range changed, and an operand's: for a number nothing changes
+abbrev pub changed : ℕ → (Range → Range) → List Range → List Range
+changed v f rs = set rs v (f (rangeOf rs v))
+
+abbrev pub operandChanged : Operand → (Range → Range) → List Range → List Range
+operandChanged (variable v) f rs = changed v f rs
+operandChanged (number c) f rs = rs
+
+-- BLTU taken and not taken
+abbrev pub lessRanges : ℕ → Operand → List Range → List Range
+lessRanges i o rs = operandChanged o (atLeast (rangeOf rs i .lo + 1)) (changed i (below (operandRange rs o .hi)) rs)
+
+abbrev pub notLessRanges : ℕ → Operand → List Range → List Range
+notLessRanges i o rs = operandChanged o (atMost (rangeOf rs i .hi)) (changed i (atLeast (operandRange rs o .lo)) rs)
+
+-- BEQU taken and not taken
+abbrev pub equalRanges : ℕ → Operand → List Range → List Range
+equalRanges i o rs = operandChanged o (overlap (rangeOf rs i)) (changed i (overlap (operandRange rs o)) rs)
+
+abbrev pub unequalRanges : ℕ → Operand → List Range → List Range
+unequalRanges i o rs =
+    cond (eqb (operandRange rs o .lo) (operandRange rs o .hi)) (changed i (without (operandRange rs o .lo)) rs) rs
+
+-- the ranges along an edge of an instruction
+unfoldable pub rangesAlong : Edge → Instruction → List Range → List Range
+rangesAlong e Stop rs = rs
+rangesAlong e (Setc d c) rs = set rs d (exactly c)
+rangesAlong e (Copy d i) rs = set rs d (rangeOf rs i)
+rangesAlong e (Addw d i o) rs =
+    set rs d (cond (sumFits (rangeOf rs i) (operandRange rs o)) (sumRange (rangeOf rs i) (operandRange rs o)) registerRange)
+rangesAlong e (Subw d i o) rs =
+    set rs d (cond (differenceFits (rangeOf rs i) (operandRange rs o)) (differenceRange (rangeOf rs i) (operandRange rs o)) registerRange)
+rangesAlong e (Mulw d i o) rs =
+    set rs d (cond (productFits (rangeOf rs i) (operandRange rs o)) (productRange (rangeOf rs i) (operandRange rs o)) registerRange)
+rangesAlong e (Divf d i o) rs = set rs d (quotientRange (rangeOf rs i) (operandRange rs o))
+rangesAlong e (Load d w b a i k) rs = set rs d (between 0 (256 ^ bytesOf w - 1))
+rangesAlong e (Stor v w a i k) rs = rs
+rangesAlong e (Jump t) rs = rs
+rangesAlong Next (Bltu i t o) rs = notLessRanges i o rs
+rangesAlong (Target u) (Bltu i t o) rs = lessRanges i o rs
+rangesAlong Next (Bequ i t o) rs = unequalRanges i o rs
+rangesAlong (Target u) (Bequ i t o) rs = equalRanges i o rs
+
+-- stripes
+
+-- the stripe names d
+abbrev pub names : ℕ → Stripe → Bool
+names d s = eqb (s .x) d || eqb (s .y) d || eqb (s .z) d
+
+-- the stripes that do not name d
+abbrev pub dropped : ℕ → List Stripe → List Stripe
+dropped d ss = kept (λ (s : Stripe). not (names d s)) ss
+
+-- the bound lies within its limits
+abbrev pub boundInLimits : Stripe → Bool
+boundInLimits s = leb (s .plus) (s .minus + greatestBound) && leb (s .minus) (s .plus + greatestBound)
+
+-- n if v is d, else 0
+abbrev pub ifIs : ℕ → ℕ → ℕ → ℕ
+ifIs d v n = cond (eqb v d) n 0
+
+-- the stripe once d has become d + up − down: b + c where x is d, less a × c for each of y, z that is d
+abbrev pub shifted : ℕ → ℕ → ℕ → Stripe → Stripe
+shifted d up down s = record {
+  x = s .x;
+  a = s .a;
+  y = s .y;
+  z = s .z;
+  plus = s .plus + ifIs d (s .x) up + s .a * (ifIs d (s .y) down + ifIs d (s .z) down);
+  minus = s .minus + ifIs d (s .x) down + s .a * (ifIs d (s .y) up + ifIs d (s .z) up);
+}
+
+-- all stripes shifted; one whose bound leaves its limits is dropped
+abbrev pub allShifted : ℕ → ℕ → ℕ → List Stripe → List Stripe
+allShifted d up down ss = kept boundInLimits (map (shifted d up down) ss)
+
+-- the stripe x − a × (y + z) ≥ plus − minus
+abbrev pub stripe : ℕ → ℕ → ℕ → ℕ → ℕ → ℕ → Stripe
+stripe x a y z p m = record { x = x; a = a; y = y; z = z; plus = p; minus = m }
+
+-- u − v ≥ plus − minus
+abbrev pub apart : ℕ → ℕ → ℕ → ℕ → Stripe
+apart u v p m = stripe u 1 v blankVariable p m
+
+-- d = i + up − down for a number: both ways round, or all stripes shifted where d is i
+abbrev pub byNumber : ℕ → ℕ → ℕ → ℕ → List Stripe → List Stripe
+byNumber d i up down ss = cond (eqb d i) (allShifted d up down ss) (apart d i up down ∷ apart i d down up ∷ dropped d ss)
+
+-- ADDW and SUBW where nothing wraps, MULW where nothing wraps
+abbrev pub sumStripes : ℕ → ℕ → Operand → List Stripe → List Stripe
+sumStripes d i (variable o) ss = cond (eqb d i || eqb d o) (dropped d ss) (stripe d 1 i o 0 0 ∷ dropped d ss)
+sumStripes d i (number c) ss = byNumber d i c 0 ss
+
+abbrev pub differenceStripes : ℕ → ℕ → Operand → List Stripe → List Stripe
+differenceStripes d i (variable o) ss = cond (eqb d i || eqb d o) (dropped d ss) (stripe i 1 d o 0 0 ∷ dropped d ss)
+differenceStripes d i (number c) ss = byNumber d i 0 c ss
+
+abbrev pub productStripes : ℕ → ℕ → Operand → List Stripe → List Stripe
+productStripes d i (variable o) ss = dropped d ss
+productStripes d i (number c) ss =
+    cond (leb 1 c && leb c greatestScale && not (eqb d i)) (stripe d c i blankVariable 0 0 ∷ dropped d ss) (dropped d ss)
+
+-- BLTU taken: o − i ≥ 1; not taken: i − o ≥ 0; BEQU taken: both differences at least 0
+abbrev pub lessStripes : ℕ → Operand → List Stripe → List Stripe
+lessStripes i (variable o) ss = apart o i 1 0 ∷ ss
+lessStripes i (number c) ss = ss
+
+abbrev pub notLessStripes : ℕ → Operand → List Stripe → List Stripe
+notLessStripes i (variable o) ss = apart i o 0 0 ∷ ss
+notLessStripes i (number c) ss = ss
+
+abbrev pub equalStripes : ℕ → Operand → List Stripe → List Stripe
+equalStripes i (variable o) ss = apart o i 0 0 ∷ apart i o 0 0 ∷ ss
+equalStripes i (number c) ss = ss
+
+-- the stripes along an edge of an instruction, with the ranges before the step
+unfoldable pub stripesAlong : Edge → Instruction → List Range → List Stripe → List Stripe
+unfolding kept
+stripesAlong e Stop rs ss = ss
+stripesAlong e (Setc d c) rs ss = dropped d ss
+stripesAlong e (Copy d i) rs ss = cond (eqb d i) ss (apart d i 0 0 ∷ apart i d 0 0 ∷ dropped d ss)
+stripesAlong e (Addw d i o) rs ss = cond (sumFits (rangeOf rs i) (operandRange rs o)) (sumStripes d i o ss) (dropped d ss)
+stripesAlong e (Subw d i o) rs ss =
+    cond (differenceFits (rangeOf rs i) (operandRange rs o)) (differenceStripes d i o ss) (dropped d ss)
+stripesAlong e (Mulw d i o) rs ss = cond (productFits (rangeOf rs i) (operandRange rs o)) (productStripes d i o ss) (dropped d ss)
+stripesAlong e (Divf d i o) rs ss = dropped d ss
+stripesAlong e (Load d w b a i k) rs ss = dropped d ss
+stripesAlong e (Stor v w a i k) rs ss = ss
+stripesAlong e (Jump t) rs ss = ss
+stripesAlong Next (Bltu i t o) rs ss = notLessStripes i o ss
+stripesAlong (Target u) (Bltu i t o) rs ss = lessStripes i o ss
+stripesAlong Next (Bequ i t o) rs ss = ss
+stripesAlong (Target u) (Bequ i t o) rs ss = equalStripes i o ss
+
+-- what is known along an edge
+unfoldable pub factsAlong : Edge → Instruction → Facts → Facts
+unfolding rangesAlong stripesAlong
+factsAlong e i f = record { ranges = rangesAlong e i (f .ranges); stripes = stripesAlong e i (f .ranges) (f .stripes) }
+
+-- an edge is possible if no range along it is empty
+abbrev pub possible : Facts → Bool
+possible f = nonEmpty (f .ranges)

@@ -1,0 +1,49 @@
+// The answers: why something is turned back, what the checker says, how a run ended.
+use crate::machine::State;
+
+// Why a listing, a state or a call is turned back: a case for each number from 1 to 17, in their order, with the lines that it names.
+pub enum Refusal {
+    ListingLength,
+    LineBytes { line: usize },
+    UnknownWord { line: usize },
+    FieldShape { line: usize },
+    NumberLimits { line: usize },
+    ClaimOrder { line: usize },
+    LastLineClaim { line: usize },
+    TooManyPoints { line: usize },
+    NoSuchTarget { line: usize },
+    NoEnd { line: usize },
+    EmptyStart { line: usize },
+    DivisorMayBeZero { line: usize },
+    AccessMayLeave { line: usize },
+    ClaimMayFail { line: usize, claim: usize },
+    TableLength,
+    NoSuchPoint,
+    ClaimsNotMet,
+}
+
+// Whether something is turned back.
+pub enum Judgement {
+    Accepted,
+    Refused(Refusal),
+}
+
+// The checker's answer: the number of points of a passed listing, or the refusal.
+pub enum Verdict {
+    Passed { points: usize },
+    Refused(Refusal),
+}
+
+// How a run ended.
+pub enum Report {
+    Stopped,
+    Paused,
+    Refused(Refusal),
+}
+
+// What a run hands back.
+pub struct Outcome {
+    pub report: Report,
+    pub state: State,
+    pub steps: u32,
+}
