@@ -14,3 +14,4 @@ pub mod Check
 pub mod Run
 pub mod Output
 pub mod Cases
+pub mod Safety
