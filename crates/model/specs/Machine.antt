@@ -32,13 +32,17 @@ valuesFrom rs n m = rs ++ (n ∷ m ∷ [])
 abbrev pub values : Config → List ℕ
 values c = valuesFrom (c .registers) (length (c .trays)) (length (c .results))
 
+-- the value of an operand among the values of all variables
+abbrev pub operandAt : List ℕ → Operand → ℕ
+operandAt vs (variable v) = valueAt vs v
+operandAt vs (number n) = n
+
 -- the value of a variable, and of an operand
 abbrev pub valueOf : Config → ℕ → ℕ
 valueOf c v = valueAt (values c) v
 
 abbrev pub operandValue : Config → Operand → ℕ
-operandValue c (variable v) = valueOf c v
-operandValue c (number n) = n
+operandValue c o = operandAt (values c) o
 
 -- the number of bytes of a width
 abbrev pub bytesOf : Width → ℕ

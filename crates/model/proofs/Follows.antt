@@ -6,13 +6,13 @@ use Prim.Native.Nat.{ℕ, zero, suc, _+_, _*_, _≤_}
 use native.Mathlib.Nat.{add-comm, mul-add, mul-le-mul-left, one-mul}
 use native.Mathlib.Omega.{arith}
 use lib.Dec.{eqb, leb}
-use borrow.Author.Tests.{leb-true, eqb-true}
+use borrow.Author.Tests.{leb-true, le-leb, eqb-true}
 use Rattle.model.specs.Types.{Range, Stripe, Claim, Leas, Most, Strp}
-use Rattle.model.specs.Limits.{blankVariable, greatestLinks}
+use Rattle.model.specs.Limits.{variables, blankVariable, greatestLinks}
 use Rattle.model.specs.Lists.{some}
-use Rattle.model.specs.Facts.{Facts, lo, hi}
+use Rattle.model.specs.Facts.{Facts, lo, hi, nonEmpty}
 use Rattle.model.specs.Follows.{byRanges, sameSides, covers, atOnce, isLink, overY, overZ, throughLink, follows, claimFollows, firstLost, lostAlong}
-use Rattle.model.proofs.Tests.{or-cases, and-left, and-right}
+use Rattle.model.proofs.Tests.{or-cases, and-left, and-right, all-below}
 use Rattle.model.proofs.Meaning.{InRange, InRanges, Holds, AllHold, Met}
 
 -- what each stripe that passes shows, a list in which some stripe passes shows
@@ -82,3 +82,39 @@ module _ (val : ℕ → ℕ) (f : Facts) (h : Met val f) where
   follows-holds (suc n) g e =
       or-cases (atOnce f g) (some (throughLink (follows f n) g) (f .stripes)) e (at-once g)
       (some-holds val (throughLink (follows f n) g) (f .stripes) (h .stripes) (through-link (follows f n) (follows-holds n) g))
+
+-- what a claim says of a valuation
+abbrev pub ClaimHolds : (ℕ → ℕ) → Claim → Type 0
+ClaimHolds val (Leas v n) = n ≤ val v
+ClaimHolds val (Most v n) = val v ≤ n
+ClaimHolds val (Strp s) = Holds val s
+
+abbrev pub ClaimsHold : (ℕ → ℕ) → List Claim → Type 0
+ClaimsHold val [] = Unit {0}
+ClaimsHold val (c ∷ cs) = ClaimHolds val c × ClaimsHold val cs
+
+module _ (val : ℕ → ℕ) (f : Facts) (h : Met val f) where
+  claim-holds : (c : Claim) → claimFollows f c ≡ true → ClaimHolds val c
+  unfolding claimFollows
+  claim-holds (Leas v n) e = let r = h .ranges v in omega (arith, leb-true)
+  claim-holds (Most v n) e = let r = h .ranges v in omega (arith, leb-true)
+  claim-holds (Strp s) e = follows-holds val f h greatestLinks s e
+
+  -- where no claim is lost, every claim holds; lines count from 1, so that 0 names none
+  none-lost : (n : ℕ) (cs : List Claim) → 1 ≤ n → firstLost f n cs ≡ 0 → ClaimsHold val cs
+  unfolding firstLost
+  none-lost n [] i e = tt
+  none-lost n (c ∷ cs) i e = go (claimFollows f c) refl e (none-lost (n + 1) cs (omega arith))
+    where
+      go : (b : Bool) → claimFollows f c ≡ b → cond b (firstLost f (n + 1) cs) n ≡ 0 → (firstLost f (n + 1) cs ≡ 0 → ClaimsHold val cs) → ClaimsHold val (c ∷ cs)
+      go true t q rest = (claim-holds c t, rest q)
+      go false t q rest = absurd (omega arith)
+
+  -- an edge along which the facts are met is possible
+  is-possible : nonEmpty (f .ranges) ≡ true
+  unfolding nonEmpty
+  is-possible = all-below (λ (v : ℕ). leb (lo (f .ranges) v) (hi (f .ranges) v)) variables (λ v i. let r = h .ranges v in le-leb (lo (f .ranges) v) (hi (f .ranges) v) (omega arith))
+
+  pub none-lost-along : (n : ℕ) (cs : List Claim) → 1 ≤ n → lostAlong f n cs ≡ 0 → ClaimsHold val cs
+  unfolding lostAlong
+  none-lost-along n cs i e = none-lost n cs i (rw is-possible at e)

@@ -1,0 +1,54 @@
+-- The ends of sums, differences, products and quotients at the values, and w bytes as a number. Assumes nothing.
+use mathlib.Core.Path.{_≡_, refl}
+use mathlib.Core.Bool.{Bool, true, false, cond}
+use mathlib.Core.List.{List}
+use Prim.Native.Nat.{ℕ, zero, suc, _+_, _*_, _-_, _/_, _%_, _^_, _≤_, _<_, max}
+use native.Mathlib.Nat.{le-trans, add-zero, mul-le-mul, mul-le-mul-left, div-mul-le-self, le-div-iff-mul-le, mul-comm, max-le, le-max-right, pow-succ', div-one}
+use native.Mathlib.Omega.{arith}
+use native.Mathlib.Decide.{ℕ-discrete, decLt}
+use lib.ListN.{length, getD, set, length-set}
+use lib.Seq.{getD-set-same, getD-set-other, set-out}
+use Rattle.model.specs.Machine.{readBytes, writeBytes}
+
+div-mono : {x y m k : ℕ} → 0 < k → k ≤ m → x ≤ y → x / m ≤ y / k
+div-mono {x} {y} {m} {k} pos km xy = le-div-iff-mul-le pos .1 (le-trans (mul-le-mul-left (x / m) km) (le-trans (div-mul-le-self x m) xy))
+
+-- lo by hi′ to hi by the larger of lo′ and 1
+pub div-ends : (lo hi v lo′ hi′ w : ℕ) → lo ≤ v → v ≤ hi → lo′ ≤ w → w ≤ hi′ → 0 < w → (lo / hi′ ≤ v / w) × (v / w ≤ hi / max lo′ 1)
+div-ends lo hi v lo′ hi′ w a b c d pos = (div-mono pos d a, div-mono (le-max-right lo′ 1) (max-le c pos) b)
+
+-- a quotient is at most what is divided
+pub div-small : (v w m : ℕ) → 0 < w → v ≤ m → v / w ≤ m
+div-small v w m pos h =
+    let top : v / w ≤ m / 1 = div-mono (omega arith) pos h in
+    rw (div-one m) at top
+
+-- products of the ends, where no product wraps
+pub mul-ends : (lo hi v lo′ hi′ w m : ℕ) → lo ≤ v → v ≤ hi → lo′ ≤ w → w ≤ hi′ → hi * hi′ ≤ m → (lo * lo′ ≤ v * w) × (v * w ≤ hi * hi′) × (v * w ≤ m)
+mul-ends lo hi v lo′ hi′ w m a b c d fits = omega (arith, mul-le-mul a c, mul-le-mul b d)
+
+-- w bytes are a number below 256 ^ w
+pub read-below : (s : List ℕ) → ((i : ℕ) → getD s i 0 < 256) → (w at : ℕ) → readBytes w s at < 256 ^ w
+unfolding readBytes
+read-below s byte zero at = omega arith
+read-below s byte (suc w) at = rw pow-succ' (omega (arith, byte at, read-below s byte w (at + 1)))
+
+-- a store keeps the size of the table, and its elements bytes
+pub write-long : (w : ℕ) (s : List ℕ) (at x : ℕ) → length (writeBytes w s at x) ≡ length s
+unfolding writeBytes
+write-long zero s at x = refl
+write-long (suc w) s at x = rw (write-long w (set s at (x % 256)) (at + 1) (x / 256)) (length-set s at (x % 256))
+
+-- elements that are bytes stay so where a byte is set
+set-byte : (s : List ℕ) (at x : ℕ) → x < 256 → ((i : ℕ) → getD s i 0 < 256) → (i : ℕ) → getD (set s at x) i 0 < 256
+set-byte s at x small byte i = go (decLt at (length s)) (ℕ-discrete i at)
+  where
+    go : Dec (at < length s) → Dec (i ≡ at) → getD (set s at x) i 0 < 256
+    go (yes h) (yes e) = rw (e, getD-set-same s at x 0 h) small
+    go (yes h) (no n) = rw (getD-set-other s at i x 0 n) (byte i)
+    go (no h) d = rw (set-out s at x (omega arith)) (byte i)
+
+pub write-byte : (w : ℕ) (s : List ℕ) (at x : ℕ) → ((i : ℕ) → getD s i 0 < 256) → (i : ℕ) → getD (writeBytes w s at x) i 0 < 256
+unfolding writeBytes
+write-byte zero s at x byte i = byte i
+write-byte (suc w) s at x byte i = write-byte w (set s at (x % 256)) (at + 1) (x / 256) (set-byte s at (x % 256) (omega arith) byte) i
