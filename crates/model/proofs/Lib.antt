@@ -6,3 +6,6 @@ pub mod Facts
 pub mod Stripes
 pub mod Values
 pub mod Transfer
+pub mod Lists
+pub mod Limits
+pub mod Reading

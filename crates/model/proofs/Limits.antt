@@ -1,0 +1,189 @@
+-- What the fields of an accepted line may hold: the limits of every instruction and claim that is read. Assumes nothing.
+use mathlib.Core.Path.{_≡_, refl}
+use mathlib.Core.Bool.{Bool, true, false, _&&_, cond, false≢true}
+use mathlib.Core.List.{List, [], _∷_}
+use Prim.Native.Nat.{ℕ, _≤_, _<_}
+use native.Mathlib.Omega.{arith}
+use lib.Dec.{ltb, leb, eqb}
+use borrow.Author.Tests.{ltb-true, leb-true}
+use Rattle.model.specs.Types.{Field, Blank, Number, Negative, Misshapen, Word, STOP, SETC, COPY, ADDW, SUBW, MULW, DIVF, LOAD, STOR, JUMP, BLTU, BEQU, LEAS, MOST, STRP, FoundWord, Unknown, Known, Operand, variable, number, Instruction, Stop, Setc, Copy, Addw, Subw, Mulw, Divf, Load, Stor, Jump, Bltu, Bequ, Stripe, Claim, Leas, Most, Strp, Line, refusedLine, claimLine, instructionLine, LineBytes, UnknownWord, FieldShape, NumberLimits, Judgement, Accepted, refused}
+use Rattle.model.specs.Limits.{registers, variables, MAX, greatestSize, greatestScale, greatestOffset, greatestBound, greatestPoints}
+use Rattle.model.specs.Lists.{everyBelow}
+use Rattle.model.specs.Text.{valueIn}
+use Rattle.model.specs.Words.{words, wordAmong, fieldsOf, within, allowed}
+use Rattle.model.specs.Lines.{wellSpelled, fieldsIn, fieldAt, F1, F2, F3, F4, F5, F6, kindAt, inShape, inLimits, judged, operandFrom, variableOrBlank, plusIn, minusIn, lineFrom, lineOr, lineFound, readLine}
+use Rattle.model.specs.Facts.{registerRange, sizeRange, unclaimedRange}
+use Rattle.model.proofs.Tests.{and-left, and-right, cond-cases, every-below}
+
+abbrev pub OperandLimited : Operand → Type 0
+OperandLimited (variable v) = v < variables
+OperandLimited (number n) = n ≤ MAX
+
+pub record ArithmeticLimited (d i : ℕ) (o : Operand) : Type 0 where
+  pub register : d < registers
+  pub variable : i < variables
+  pub operand : OperandLimited o
+
+pub record AccessLimited (a i k : ℕ) : Type 0 where
+  pub scaled : 1 ≤ a
+  pub scale : a ≤ greatestScale
+  pub variable : i < variables
+  pub offset : k ≤ greatestOffset
+
+pub record BranchLimited (i t : ℕ) (o : Operand) : Type 0 where
+  pub variable : i < variables
+  pub target : t < greatestPoints
+  pub operand : OperandLimited o
+
+pub record StripeLimited (s : Stripe) : Type 0 where
+  pub x : s .x < variables
+  pub scaled : 1 ≤ s .a
+  pub scale : s .a ≤ greatestScale
+  pub y : s .y < variables
+  pub z : s .z ≤ variables
+  pub plus : s .plus ≤ greatestBound
+  pub minus : s .minus ≤ greatestBound
+
+-- the limits of an instruction
+abbrev pub Limited : Instruction → Type 0
+Limited Stop = Unit {0}
+Limited (Setc d c) = (d < registers) × (c ≤ MAX)
+Limited (Copy d i) = (d < registers) × (i < variables)
+Limited (Addw d i o) = ArithmeticLimited d i o
+Limited (Subw d i o) = ArithmeticLimited d i o
+Limited (Mulw d i o) = ArithmeticLimited d i o
+Limited (Divf d i o) = ArithmeticLimited d i o
+Limited (Load d w b a i k) = (d < registers) × AccessLimited a i k
+Limited (Stor v w a i k) = (v < variables) × AccessLimited a i k
+Limited (Jump t) = t < greatestPoints
+Limited (Bltu i t o) = BranchLimited i t o
+Limited (Bequ i t o) = BranchLimited i t o
+
+-- the limits of a claim
+abbrev pub ClaimLimited : Claim → Type 0
+ClaimLimited (Leas v n) = (v < variables) × (n ≤ unclaimedRange v .hi)
+ClaimLimited (Most v n) = (v < variables) × (n ≤ unclaimedRange v .hi)
+ClaimLimited (Strp s) = StripeLimited s
+
+abbrev pub LineLimited : Line → Type 0
+LineLimited (refusedLine r) = Unit {0}
+LineLimited (claimLine c) = ClaimLimited c
+LineLimited (instructionLine i) = Limited i
+
+operand-limited : (f5 v : ℕ) → cond (eqb f5 0) (ltb v variables) (leb v MAX) ≡ true → OperandLimited (operandFrom f5 v)
+operand-limited f5 v e = go (eqb f5 0) e
+  where
+    go : (b : Bool) → cond b (ltb v variables) (leb v MAX) ≡ true → OperandLimited (cond b (variable v) (number v))
+    go true t = ltb-true v variables t
+    go false t = leb-true v MAX t
+
+claimed-limited : (f1 v : ℕ) → cond (ltb f1 registers) (leb v MAX) (leb v greatestSize) ≡ true → v ≤ unclaimedRange f1 .hi
+claimed-limited f1 v e = go (ltb f1 registers) e
+  where
+    go : (b : Bool) → cond b (leb v MAX) (leb v greatestSize) ≡ true → v ≤ (cond b registerRange sizeRange) .hi
+    go true t = leb-true v MAX t
+    go false t = leb-true v greatestSize t
+
+blank-limited : (f : Field) → valueIn f < variables → variableOrBlank f ≤ variables
+blank-limited Blank h = omega arith
+blank-limited (Number v) h = omega arith
+blank-limited (Negative v) h = omega arith
+blank-limited Misshapen h = omega arith
+
+bound-limited : (f : Field) (m : ℕ) → valueIn f ≤ m → (plusIn f ≤ m) × (minusIn f ≤ m)
+bound-limited Blank m h = omega arith
+bound-limited (Number v) m h = omega arith
+bound-limited (Negative v) m h = omega arith
+bound-limited Misshapen m h = omega arith
+
+scale-limited : (v : ℕ) → (leb 1 v && leb v greatestScale) ≡ true → (1 ≤ v) × (v ≤ greatestScale)
+scale-limited v e = (leb-true 1 v (and-left (leb 1 v) _ e), leb-true v greatestScale (and-right (leb 1 v) _ e))
+
+-- each word, by the limits of its fields
+module _ (fs : List Field) where
+  field-allowed : (w : Word) → inLimits w fs ≡ true → (j : ℕ) → j < 6 → allowed (kindAt w j) (F1 fs) (F5 fs) (valueIn (fieldAt fs j)) ≡ true
+  unfolding inLimits
+  field-allowed w e j h = every-below (λ (j : ℕ). allowed (kindAt w j) (F1 fs) (F5 fs) (valueIn (fieldAt fs j))) 6 e j h
+
+  arithmetic : (w : Word) → inLimits w fs ≡ true
+      → allowed (kindAt w 0) (F1 fs) (F5 fs) (F1 fs) ≡ ltb (F1 fs) registers
+      → allowed (kindAt w 1) (F1 fs) (F5 fs) (F2 fs) ≡ ltb (F2 fs) variables
+      → allowed (kindAt w 5) (F1 fs) (F5 fs) (F6 fs) ≡ cond (eqb (F5 fs) 0) (ltb (F6 fs) variables) (leb (F6 fs) MAX)
+      → ArithmeticLimited (F1 fs) (F2 fs) (operandFrom (F5 fs) (F6 fs))
+  arithmetic w e p q r = record {
+    register = ltb-true (F1 fs) registers (rw p at (field-allowed w e 0 (omega arith)));
+    variable = ltb-true (F2 fs) variables (rw q at (field-allowed w e 1 (omega arith)));
+    operand = operand-limited (F5 fs) (F6 fs) (rw r at (field-allowed w e 5 (omega arith)));
+  }
+
+  branch : (w : Word) → inLimits w fs ≡ true
+      → allowed (kindAt w 1) (F1 fs) (F5 fs) (F2 fs) ≡ ltb (F2 fs) variables
+      → allowed (kindAt w 3) (F1 fs) (F5 fs) (F4 fs) ≡ ltb (F4 fs) greatestPoints
+      → allowed (kindAt w 5) (F1 fs) (F5 fs) (F6 fs) ≡ cond (eqb (F5 fs) 0) (ltb (F6 fs) variables) (leb (F6 fs) MAX)
+      → BranchLimited (F2 fs) (F4 fs) (operandFrom (F5 fs) (F6 fs))
+  branch w e p q r = record {
+    variable = ltb-true (F2 fs) variables (rw p at (field-allowed w e 1 (omega arith)));
+    target = ltb-true (F4 fs) greatestPoints (rw q at (field-allowed w e 3 (omega arith)));
+    operand = operand-limited (F5 fs) (F6 fs) (rw r at (field-allowed w e 5 (omega arith)));
+  }
+
+  access : (w : Word) → inLimits w fs ≡ true
+      → allowed (kindAt w 3) (F1 fs) (F5 fs) (F4 fs) ≡ (leb 1 (F4 fs) && leb (F4 fs) greatestScale)
+      → allowed (kindAt w 4) (F1 fs) (F5 fs) (F5 fs) ≡ ltb (F5 fs) variables
+      → allowed (kindAt w 5) (F1 fs) (F5 fs) (F6 fs) ≡ leb (F6 fs) greatestOffset
+      → AccessLimited (F4 fs) (F5 fs) (F6 fs)
+  access w e p q r =
+      let s = scale-limited (F4 fs) (rw p at (field-allowed w e 3 (omega arith))) in
+      record {
+        scaled = s .0;
+        scale = s .1;
+        variable = ltb-true (F5 fs) variables (rw q at (field-allowed w e 4 (omega arith)));
+        offset = leb-true (F6 fs) greatestOffset (rw r at (field-allowed w e 5 (omega arith)));
+      }
+
+  line-limited : (w : Word) → inLimits w fs ≡ true → LineLimited (lineFrom w fs)
+  unfolding allowed within fieldsOf
+  line-limited STOP e = tt
+  line-limited SETC e = (ltb-true (F1 fs) registers (field-allowed SETC e 0 (omega arith)), leb-true (F6 fs) MAX (field-allowed SETC e 5 (omega arith)))
+  line-limited COPY e = (ltb-true (F1 fs) registers (field-allowed COPY e 0 (omega arith)), ltb-true (F2 fs) variables (field-allowed COPY e 1 (omega arith)))
+  line-limited ADDW e = arithmetic ADDW e refl refl refl
+  line-limited SUBW e = arithmetic SUBW e refl refl refl
+  line-limited MULW e = arithmetic MULW e refl refl refl
+  line-limited DIVF e = arithmetic DIVF e refl refl refl
+  line-limited LOAD e = (ltb-true (F1 fs) registers (field-allowed LOAD e 0 (omega arith)), access LOAD e refl refl refl)
+  line-limited STOR e = (ltb-true (F1 fs) variables (field-allowed STOR e 0 (omega arith)), access STOR e refl refl refl)
+  line-limited JUMP e = ltb-true (F4 fs) greatestPoints (field-allowed JUMP e 3 (omega arith))
+  line-limited BLTU e = branch BLTU e refl refl refl
+  line-limited BEQU e = branch BEQU e refl refl refl
+  line-limited LEAS e = (ltb-true (F1 fs) variables (field-allowed LEAS e 0 (omega arith)), claimed-limited (F1 fs) (F6 fs) (field-allowed LEAS e 5 (omega arith)))
+  line-limited MOST e = (ltb-true (F1 fs) variables (field-allowed MOST e 0 (omega arith)), claimed-limited (F1 fs) (F6 fs) (field-allowed MOST e 5 (omega arith)))
+  line-limited STRP e =
+      let s = scale-limited (F2 fs) (field-allowed STRP e 1 (omega arith)) in
+      let b = bound-limited (fieldAt fs 5) greatestBound (leb-true (F6 fs) greatestBound (field-allowed STRP e 5 (omega arith))) in
+      record {
+        x = ltb-true (F1 fs) variables (field-allowed STRP e 0 (omega arith));
+        scaled = s .0;
+        scale = s .1;
+        y = ltb-true (F3 fs) variables (field-allowed STRP e 2 (omega arith));
+        z = blank-limited (fieldAt fs 3) (ltb-true (F4 fs) variables (field-allowed STRP e 3 (omega arith)));
+        plus = b .0;
+        minus = b .1;
+      }
+
+  found-limited : (place : ℕ) (w : FoundWord) → LineLimited (lineFound place w fs)
+  unfolding judged
+  found-limited place Unknown = tt
+  found-limited place (Known w) = go (inShape w fs) (inLimits w fs) refl
+    where
+      go : (a b : Bool) → inLimits w fs ≡ b → LineLimited (lineOr (cond a (cond b Accepted (refused (NumberLimits place))) (refused (FieldShape place))) (lineFrom w fs))
+      go true true e = line-limited w e
+      go true false e = tt
+      go false true e = tt
+      go false false e = tt
+
+-- every line that is read lies within its limits
+pub read-limited : (place : ℕ) (l : List ℕ) → LineLimited (readLine place l)
+unfolding readLine
+read-limited place l =
+    cond-cases LineLimited (wellSpelled l) (lineFound place (wordAmong words l) (fieldsIn l)) (refusedLine (LineBytes place))
+    (λ e. found-limited (fieldsIn l) place (wordAmong words l)) (λ e. tt)
