@@ -2,10 +2,11 @@ pub mod Tests
 pub mod Meaning
 pub mod Follows
 pub mod Ranges
-pub mod Facts
 pub mod Stripes
 pub mod Values
 pub mod Transfer
 pub mod Lists
 pub mod Limits
 pub mod Reading
+pub mod Facts
+pub mod Stepping

@@ -22,7 +22,7 @@ use Rattle.model.proofs.Stripes.{same-hold, apart-holds, dropped-hold, 
 use Rattle.model.proofs.Values.{div-ends, mul-ends}
 
 module _ (vs : List ℕ) (f : Facts) (h : Met (valueAt vs) f) where
-  in-operand : (o : Operand) → InRange (operandAt vs o) (operandRange (f .ranges) o)
+  pub in-operand : (o : Operand) → InRange (operandAt vs o) (operandRange (f .ranges) o)
   in-operand (variable v) = h .ranges v
   in-operand (number c) = omega arith
 

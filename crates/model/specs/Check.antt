@@ -45,25 +45,22 @@ safetyJudged l f (Bequ i t o) = Accepted
 abbrev pub claimsJudged : ℕ → Facts → Point → Judgement
 claimsJudged l f q = let lost = lostAlong f (firstLine q) (q .claims) in cond (eqb lost 0) Accepted (refused (ClaimMayFail l lost))
 
--- the same for each of some edges of point p, in order
-abbrev pub edgesJudged : List Point → ℕ → List Edge → Judgement
-edgesJudged ps p [] = Accepted
-edgesJudged ps p (e ∷ es) =
-    claimsJudged (pointAt ps p .line) (factsAlong e (pointAt ps p .instruction) (factsOf (pointAt ps p .claims))) (pointAt ps (leadsTo p e))
-    andThen edgesJudged ps p es
+-- the same along each of some edges of q, the p-th point, in order
+abbrev pub edgesJudged : List Point → ℕ → Point → List Edge → Judgement
+edgesJudged ps p q [] = Accepted
+edgesJudged ps p q (e ∷ es) =
+    claimsJudged (q .line) (factsAlong e (q .instruction) (factsOf (q .claims))) (pointAt ps (leadsTo p e)) andThen edgesJudged ps p q es
 
--- everything that point p owes, in order
-unfoldable pub pointJudged : List Point → ℕ → Judgement
+-- everything that q, the p-th point, owes, in order
+unfoldable pub pointJudged : List Point → ℕ → Point → Judgement
 unfolding safetyJudged factsOf factsAlong lostAlong
-pointJudged ps p =
-    safetyJudged (pointAt ps p .line) (factsOf (pointAt ps p .claims)) (pointAt ps p .instruction)
-    andThen edgesJudged ps p (edges (pointAt ps p .instruction))
+pointJudged ps p q = safetyJudged (q .line) (factsOf (q .claims)) (q .instruction) andThen edgesJudged ps p q (edges (q .instruction))
 
 -- the first n points, in order
 unfoldable pub pointsJudged : List Point → ℕ → Judgement
 unfolding pointJudged
 pointsJudged ps zero = Accepted
-pointsJudged ps (suc n) = pointsJudged ps n andThen pointJudged ps n
+pointsJudged ps (suc n) = pointsJudged ps n andThen pointJudged ps n (pointAt ps n)
 
 -- 12 to 14 over all points of a listing that is read
 abbrev pub listingJudged : Listing → Judgement

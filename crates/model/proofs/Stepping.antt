@@ -1,0 +1,271 @@
+-- One step from a configuration that meets the claims of its point: no error, and the claims of the next point are met. Assumes nothing.
+use mathlib.Core.Path.{_≡_, refl, ap, sym, subst, _∙_}
+use mathlib.Core.Logic.{_≢_}
+use mathlib.Core.Bool.{Bool, true, false, _&&_, _||_, cond, false≢true}
+use mathlib.Core.List.{List, [], _∷_, _++_}
+use Prim.Native.Nat.{ℕ, zero, suc, _+_, _*_, _-_, _/_, _%_, _^_, _≤_, _<_}
+use native.Mathlib.Nat.{add-zero, mul-le-mul-left}
+use native.Mathlib.Omega.{arith}
+use native.Mathlib.Decide.{ℕ-discrete, decLt}
+use lib.ListN.{length, getD, set, length-set, length-append}
+use lib.Seq.{getD-set-same, getD-set-other, set-append-left, getD-at, getD-append-add}
+use lib.Dec.{ltb, leb, eqb}
+use borrow.Author.Tests.{ltb-true, ltb-false, leb-true, leb-false, eqb-true, eqb-false, lt-ltb, le-leb, ne-eqb}
+use Rattle.model.specs.Types.{Width, One, Two, Four, Table, Trays, Results, Operand, variable, number, Instruction, Stop, Setc, Copy, Addw, Subw, Mulw, Divf, Load, Stor, Jump, Bltu, Bequ, Edge, Next, Target, Claim, Judgement, Accepted, refused, NoSuchTarget, DivisorMayBeZero, AccessMayLeave, ClaimMayFail}
+use Rattle.model.specs.Limits.{registers, variables, blankVariable, MAX, modulus, greatestLinks}
+use Rattle.model.specs.Answers.{_andThen_}
+use Rattle.model.specs.Facts.{registerRange, sizeRange, unclaimedRange, Facts, unclaimed, rangeOf, lo, hi, factsOf, valueAt}
+use Rattle.model.specs.Listing.{Point, firstLine, pointAt, targets, goesOn, targetsExist, allTargetsExist}
+use Rattle.model.specs.Machine.{Config, valuesFrom, values, operandAt, valueOf, operandValue, bytesOf, tableOf, sizeVariable, readBytes, writeBytes, sum, difference, product, quotient, address, wrote, went, stored, Step, next, stopped, errorState, inside, stepOf, stepAt}
+use Rattle.model.specs.Transfer.{edges, leadsTo, operandRange, stripe, factsAlong}
+use Rattle.model.specs.Follows.{follows, lostAlong}
+use Rattle.model.specs.Check.{divisorSafe, accessSafe, safetyJudged, claimsJudged, edgesJudged, pointJudged, pointsJudged}
+use Rattle.model.specs.Safety.{Bytes}
+use Rattle.model.proofs.Tests.{or-cases, and-left, and-right, cond-cases}
+use Rattle.model.proofs.Lists.{All, all-at}
+use Rattle.model.proofs.Meaning.{InRange, InRanges, Holds, Met}
+use Rattle.model.proofs.Follows.{follows-holds, ClaimsHold, none-lost-along}
+use Rattle.model.proofs.Facts.{facts-long, Bounded, top, top-register, blank-value, small-value, met-bounded, met-facts}
+use Rattle.model.proofs.Ranges.{OnlyAt}
+use Rattle.model.proofs.Values.{div-small, read-below, write-long, write-byte}
+use Rattle.model.proofs.Transfer.{in-operand, setc-met, copy-met, addw-met, subw-met, mulw-met, divf-met, load-met, less-met, not-less-met, equal-met, unequal-met}
+use Rattle.model.proofs.Limits.{Limited}
+use Rattle.model.proofs.Reading.{both-accepted, test-passed, PointLimited, WellFormed}
+
+-- a configuration of the machine's types: sixteen registers, tables of n and m bytes, no value above the unclaimed end of its variable
+pub record Typed (n m : ℕ) (c : Config) : Type 0 where
+  pub registers : length (c .registers) ≡ registers
+  pub trays : Bytes n (c .trays)
+  pub results : Bytes m (c .results)
+  pub bounded : Bounded (valueOf c)
+
+-- a register written
+module _ (n m : ℕ) (c : Config) (t : Typed n m c) (d x : ℕ) (inside-d : d < registers) where
+  wrote-values : values (wrote c d x) ≡ set (values c) d x
+  wrote-values = let r = t .registers in sym (set-append-left (c .registers) _ d x (omega arith))
+
+  values-long : length (values c) ≡ variables
+  values-long = let r = t .registers in simp length-append (omega arith)
+
+  wrote-value : valueOf (wrote c d x) d ≡ x
+  wrote-value = let l = values-long in ap (λ (vs : List ℕ). valueAt vs d) wrote-values ∙ getD-set-same (values c) d x 0 (omega arith)
+
+  wrote-same : OnlyAt d (valueOf c) (valueOf (wrote c d x))
+  wrote-same v o = ap (λ (vs : List ℕ). valueAt vs v) wrote-values ∙ getD-set-other (values c) d v x 0 o
+
+  wrote-typed : x ≤ MAX → Typed n m (wrote c d x)
+  wrote-typed small = record { registers = length-set (c .registers) d x ∙ t .registers; trays = t .trays; results = t .results; bounded = λ v. go v (ℕ-discrete v d) }
+    where
+      go : (v : ℕ) → Dec (v ≡ d) → valueOf (wrote c d x) v ≤ top v
+      go v (yes e) = rw e (omega (arith, wrote-value, top-register d inside-d))
+      go v (no o) = rw (wrote-same v o) (t .bounded v)
+
+-- the size of a table is the value of its variable
+module _ (n m : ℕ) (c : Config) (t : Typed n m c) where
+  size-value : (b : Table) → valueOf c (sizeVariable b) ≡ length (tableOf b c)
+  size-value Trays = getD-at (c .registers) _ _ 0 registers (t .registers)
+  size-value Results =
+      let e : getD (values c) (length (c .registers) + 1) 0 ≡ length (c .results) = getD-append-add (c .registers) _ 1 0 in
+      rw (t .registers) at e
+
+  table-bytes : (b : Table) (i : ℕ) → getD (tableOf b c) i 0 < 256
+  table-bytes Trays = t .trays .byte
+  table-bytes Results = t .results .byte
+
+  -- an access that is safe by the facts lies inside its table
+  access-inside : (f : Facts) → Met (valueOf c) f → (b : Table) (w : Width) (a i k : ℕ) → accessSafe f b w a i k ≡ true → address a (valueOf c i) k + bytesOf w ≤ length (tableOf b c)
+  access-inside f h b w a i k e =
+      let size = size-value b in
+      let zero-blank = blank-value (valueOf c) (t .bounded) in
+      or-cases (leb (a * hi (f .ranges) i + k + bytesOf w) (lo (f .ranges) (sizeVariable b))) _ e
+      (λ q.
+      let r = h .ranges i in
+      let s = h .ranges (sizeVariable b) in
+      omega (arith, leb-true, mul-le-mul-left a (r .1)))
+      (λ q.
+      let g : Holds (valueOf c) (stripe (sizeVariable b) a i blankVariable (k + bytesOf w) 0) = follows-holds (valueOf c) f h greatestLinks _ q in
+      let z : a * (valueOf c i + valueOf c blankVariable) ≡ a * valueOf c i = rw (zero-blank, add-zero) in
+      omega arith)
+
+-- a configuration that meets the claims of its point
+pub record Good (ps : List Point) (n m : ℕ) (c : Config) : Type 0 where
+  pub exists : c .point < length ps
+  pub typed : Typed n m c
+  pub met : Met (valueOf c) (factsOf (pointAt ps (c .point) .claims))
+
+-- a step that is no error, leads to such a configuration, and leaves the trays as they are
+abbrev pub StepGood : List Point → ℕ → ℕ → List ℕ → Step → Type 0
+StepGood ps n m ts (next c) = Good ps n m c × (c .trays ≡ ts)
+StepGood ps n m ts stopped = Unit {0}
+StepGood ps n m ts errorState = ⊥
+
+width-small : (w : Width) → 256 ^ bytesOf w ≤ modulus
+width-small One = omega arith
+width-small Two = omega arith
+width-small Four = omega arith
+
+module _ (ps : List Point) (limited : All PointLimited ps) (n m : ℕ) where
+  -- the claims of a point follow along an edge to it, so that they are met there
+  arrive : (l : ℕ) (f : Facts) (c′ : Config) → c′ .point < length ps → Typed n m c′ → Met (valueOf c′) f → claimsJudged l f (pointAt ps (c′ .point)) ≡ Accepted → Good ps n m c′
+  arrive l f c′ inside-c t h e =
+      let q = pointAt ps (c′ .point) in
+      let lim : PointLimited q = all-at PointLimited ps _ (c′ .point) inside-c limited in
+      let none : lostAlong f (firstLine q) (q .claims) ≡ 0 = eqb-true _ _ (test-passed (eqb (lostAlong f (firstLine q) (q .claims)) 0) (ClaimMayFail l (lostAlong f (firstLine q) (q .claims))) e) in
+      record {
+        exists = inside-c;
+        typed = t;
+        met = met-facts (valueOf c′) (q .claims) (t .bounded) (none-lost-along (valueOf c′) f h (firstLine q) (q .claims) (omega (arith, lim .before)) none);
+      }
+
+  -- a step from a point with the claims cs on the line l
+  module _ (c : Config) (t : Typed n m c) (l : ℕ) (cs : List Claim) (h : Met (valueOf c) (factsOf cs)) where
+    -- a register is written
+    write-good : (i : Instruction) (d x : ℕ) → d < registers → x ≤ MAX → c .point + 1 < length ps → Met (valueOf (wrote c d x)) (factsAlong Next i (factsOf cs))
+        → claimsJudged l (factsAlong Next i (factsOf cs)) (pointAt ps (c .point + 1)) ≡ Accepted → StepGood ps n m (c .trays) (next (wrote c d x))
+    write-good i d x in-d small on k e = (arrive l (factsAlong Next i (factsOf cs)) (wrote c d x) on (wrote-typed n m c t d x in-d small) k e, refl)
+
+    -- no value changes
+    go-good : (i : Instruction) (e : Edge) (p : ℕ) → p < length ps → Met (valueOf c) (factsAlong e i (factsOf cs))
+        → claimsJudged l (factsAlong e i (factsOf cs)) (pointAt ps p) ≡ Accepted → StepGood ps n m (c .trays) (next (went c p))
+    go-good i e p on k j =
+        (arrive l (factsAlong e i (factsOf cs)) (went c p) on (record { registers = t .registers; trays = t .trays; results = t .results; bounded = t .bounded }) k j, refl)
+
+    module _ (d : ℕ) (in-d : d < registers) where
+      in-ranges : d < length (factsOf cs .ranges)
+      in-ranges = omega (arith, facts-long cs)
+
+      blank-after : (x : ℕ) → x ≤ MAX → valueOf (wrote c d x) blankVariable ≡ 0
+      blank-after x small = blank-value (valueOf (wrote c d x)) (wrote-typed n m c t d x in-d small .bounded)
+
+    -- DIVF: a divisor that is safe by the facts is not 0
+    divf-good : (d i : ℕ) (o : Operand) → d < registers → c .point + 1 < length ps → divisorSafe (factsOf cs) o ≡ true
+        → claimsJudged l (factsAlong Next (Divf d i o) (factsOf cs)) (pointAt ps (c .point + 1)) ≡ Accepted → StepGood ps n m (c .trays) (stepOf (Divf d i o) c)
+    unfolding stepOf
+    divf-good d i o in-d on safe e =
+        let x = quotient (valueOf c i) (operandValue c o) in
+        let low = leb-true 1 (operandRange (factsOf cs .ranges) o .lo) safe in
+        let r = in-operand (values c) (factsOf cs) h o in
+        let pos : 0 < operandValue c o = omega arith in
+        let small : x ≤ MAX = div-small (valueOf c i) (operandValue c o) MAX pos (small-value (valueOf c) (t .bounded) i) in
+        cond-cases (StepGood ps n m (c .trays)) (eqb (operandValue c o) 0) errorState (next (wrote c d x))
+        (λ z. omega (arith, eqb-true))
+        (λ z.
+        write-good (Divf d i o) d x in-d small on
+        (divf-met (values c) (factsOf cs) h (values (wrote c d x)) d (in-ranges d in-d) (wrote-same n m c t d x in-d) (blank-after d in-d x small) Next i o pos (wrote-value n m c t d x in-d))
+        e)
+
+    -- an access that is safe by the facts is made
+    access-good : (b : Table) (w : Width) (a i k : ℕ) (c′ : Config) → accessSafe (factsOf cs) b w a i k ≡ true → StepGood ps n m (c .trays) (next c′)
+        → StepGood ps n m (c .trays) (inside (address a (valueOf c i) k) w (tableOf b c) c′)
+    access-good b w a i k c′ safe g =
+        let room = access-inside n m c t (factsOf cs) h b w a i k safe in
+        cond-cases (StepGood ps n m (c .trays)) (leb (address a (valueOf c i) k + bytesOf w) (length (tableOf b c))) (next c′) errorState
+        (λ z. g) (λ z. omega (arith, leb-false))
+
+    load-good : (d : ℕ) (w : Width) (b : Table) (a i k : ℕ) → d < registers → c .point + 1 < length ps
+        → claimsJudged l (factsAlong Next (Load d w b a i k) (factsOf cs)) (pointAt ps (c .point + 1)) ≡ Accepted
+        → StepGood ps n m (c .trays) (next (wrote c d (readBytes (bytesOf w) (tableOf b c) (address a (valueOf c i) k))))
+    load-good d w b a i k in-d on e =
+        let x = readBytes (bytesOf w) (tableOf b c) (address a (valueOf c i) k) in
+        let few : x < 256 ^ bytesOf w = read-below (tableOf b c) (table-bytes n m c t b) (bytesOf w) (address a (valueOf c i) k) in
+        let small : x ≤ MAX = omega (arith, width-small w) in
+        let new = wrote-value n m c t d x in-d in
+        write-good (Load d w b a i k) d x in-d small on
+        (load-met (values c) (factsOf cs) h (values (wrote c d x)) d (in-ranges d in-d) (wrote-same n m c t d x in-d) (blank-after d in-d x small) Next w b a i k (rw new few))
+        e
+
+    -- a store keeps the size of the results, and with it every value
+    stor-good : (v : ℕ) (w : Width) (a i k : ℕ) → c .point + 1 < length ps
+        → claimsJudged l (factsAlong Next (Stor v w a i k) (factsOf cs)) (pointAt ps (c .point + 1)) ≡ Accepted
+        → StepGood ps n m (c .trays) (next (stored c (writeBytes (bytesOf w) (c .results) (address a (valueOf c i) k) (valueOf c v))))
+    unfolding factsAlong
+    stor-good v w a i k on e =
+        let rs = writeBytes (bytesOf w) (c .results) (address a (valueOf c i) k) (valueOf c v) in
+        let long : length rs ≡ length (c .results) = write-long (bytesOf w) (c .results) (address a (valueOf c i) k) (valueOf c v) in
+        let same : values c ≡ values (stored c rs) = ap (λ (s : ℕ). valuesFrom (c .registers) (length (c .trays)) s) (sym long) in
+        let typed : Typed n m (stored c rs) = record {
+          registers = t .registers;
+          trays = t .trays;
+          results = record { size = long ∙ t .results .size; byte = write-byte (bytesOf w) (c .results) (address a (valueOf c i) k) (valueOf c v) (t .results .byte) };
+          bounded = subst (λ (vs : List ℕ). Bounded (valueAt vs)) same (t .bounded);
+        } in
+        (arrive l (factsOf cs) (stored c rs) on typed (subst (λ (vs : List ℕ). Met (valueAt vs) (factsOf cs)) same h) e, refl)
+
+    bltu-good : (i u : ℕ) (o : Operand) → c .point + 1 < length ps → u < length ps
+        → claimsJudged l (factsAlong Next (Bltu i u o) (factsOf cs)) (pointAt ps (c .point + 1)) ≡ Accepted
+        → claimsJudged l (factsAlong (Target u) (Bltu i u o) (factsOf cs)) (pointAt ps u) ≡ Accepted
+        → StepGood ps n m (c .trays) (stepOf (Bltu i u o) c)
+    unfolding stepOf
+    bltu-good i u o on there e e′ =
+        cond-cases (λ (p : ℕ). StepGood ps n m (c .trays) (next (went c p))) (ltb (valueOf c i) (operandValue c o)) u (c .point + 1)
+        (λ z. go-good (Bltu i u o) (Target u) u there (less-met (values c) (factsOf cs) h (facts-long cs) i u o u (ltb-true _ _ z)) e′)
+        (λ z. go-good (Bltu i u o) Next (c .point + 1) on (not-less-met (values c) (factsOf cs) h (facts-long cs) i u o (ltb-false _ _ z)) e)
+
+    bequ-good : (i u : ℕ) (o : Operand) → c .point + 1 < length ps → u < length ps
+        → claimsJudged l (factsAlong Next (Bequ i u o) (factsOf cs)) (pointAt ps (c .point + 1)) ≡ Accepted
+        → claimsJudged l (factsAlong (Target u) (Bequ i u o) (factsOf cs)) (pointAt ps u) ≡ Accepted
+        → StepGood ps n m (c .trays) (stepOf (Bequ i u o) c)
+    unfolding stepOf
+    bequ-good i u o on there e e′ =
+        cond-cases (λ (p : ℕ). StepGood ps n m (c .trays) (next (went c p))) (eqb (valueOf c i) (operandValue c o)) u (c .point + 1)
+        (λ z. go-good (Bequ i u o) (Target u) u there (equal-met (values c) (factsOf cs) h (facts-long cs) i u o u (eqb-true _ _ z)) e′)
+        (λ z. go-good (Bequ i u o) Next (c .point + 1) on (unequal-met (values c) (factsOf cs) h (facts-long cs) i u o (eqb-false _ _ z)) e)
+
+    jump-good : (u : ℕ) → u < length ps → claimsJudged l (factsAlong (Target u) (Jump u) (factsOf cs)) (pointAt ps u) ≡ Accepted → StepGood ps n m (c .trays) (next (went c u))
+    unfolding factsAlong
+    jump-good u there e = go-good (Jump u) (Target u) u there h e
+
+    target-exists : (u : ℕ) → targetsExist (length ps) l (u ∷ []) ≡ Accepted → u < length ps
+    target-exists u e = ltb-true u (length ps) (test-passed (ltb u (length ps)) (NoSuchTarget l) (both-accepted _ _ e .0))
+
+    step-good : (i : Instruction) → Limited i → (goesOn i ≡ true → c .point + 1 < length ps) → targetsExist (length ps) l (targets i) ≡ Accepted
+        → pointJudged ps (c .point) (record { line = l; claims = cs; instruction = i }) ≡ Accepted → StepGood ps n m (c .trays) (stepOf i c)
+    unfolding stepOf pointJudged safetyJudged
+    step-good Stop lim on reach owed = tt
+    step-good (Setc d x) lim on reach owed =
+        write-good (Setc d x) d x (lim .0) (lim .1) (on refl)
+        (setc-met (values c) (factsOf cs) h (values (wrote c d x)) d (in-ranges d (lim .0)) (wrote-same n m c t d x (lim .0)) (blank-after d (lim .0) x (lim .1)) Next x (wrote-value n m c t d x (lim .0)))
+        (both-accepted _ _ owed .0)
+    step-good (Copy d i) lim on reach owed =
+        let x = valueOf c i in
+        let small = small-value (valueOf c) (t .bounded) i in
+        write-good (Copy d i) d x (lim .0) small (on refl)
+        (copy-met (values c) (factsOf cs) h (values (wrote c d x)) d (in-ranges d (lim .0)) (wrote-same n m c t d x (lim .0)) (blank-after d (lim .0) x small) Next i (wrote-value n m c t d x (lim .0)))
+        (both-accepted _ _ owed .0)
+    step-good (Addw d i o) lim on reach owed =
+        let x = sum (valueOf c i) (operandValue c o) in
+        let small : x ≤ MAX = omega arith in
+        let in-d = lim .register in
+        write-good (Addw d i o) d x in-d small (on refl)
+        (addw-met (values c) (factsOf cs) h (values (wrote c d x)) d (in-ranges d in-d) (wrote-same n m c t d x in-d) (blank-after d in-d x small) Next i o (wrote-value n m c t d x in-d))
+        (both-accepted _ _ owed .0)
+    step-good (Subw d i o) lim on reach owed =
+        let x = difference (valueOf c i) (operandValue c o) in
+        let small : x ≤ MAX = omega arith in
+        let in-d = lim .register in
+        write-good (Subw d i o) d x in-d small (on refl)
+        (subw-met (values c) (factsOf cs) h (values (wrote c d x)) d (in-ranges d in-d) (wrote-same n m c t d x in-d) (blank-after d in-d x small) Next i o (small-value (valueOf c) (t .bounded) i) (wrote-value n m c t d x in-d))
+        (both-accepted _ _ owed .0)
+    step-good (Mulw d i o) lim on reach owed =
+        let x = product (valueOf c i) (operandValue c o) in
+        let small : x ≤ MAX = omega arith in
+        let in-d = lim .register in
+        write-good (Mulw d i o) d x in-d small (on refl)
+        (mulw-met (values c) (factsOf cs) h (values (wrote c d x)) d (in-ranges d in-d) (wrote-same n m c t d x in-d) (blank-after d in-d x small) Next i o (wrote-value n m c t d x in-d))
+        (both-accepted _ _ owed .0)
+    step-good (Divf d i o) lim on reach owed =
+        let (safe, rest) = both-accepted (cond (divisorSafe (factsOf cs) o) Accepted (refused (DivisorMayBeZero l))) _ owed in
+        divf-good d i o (lim .register) (on refl) (test-passed _ _ safe) (both-accepted _ _ rest .0)
+    step-good (Load d w b a i k) lim on reach owed =
+        let (safe, rest) = both-accepted (cond (accessSafe (factsOf cs) b w a i k) Accepted (refused (AccessMayLeave l))) _ owed in
+        access-good b w a i k _ (test-passed _ _ safe) (load-good d w b a i k (lim .0) (on refl) (both-accepted _ _ rest .0))
+    step-good (Stor v w a i k) lim on reach owed =
+        let (safe, rest) = both-accepted (cond (accessSafe (factsOf cs) Results w a i k) Accepted (refused (AccessMayLeave l))) _ owed in
+        access-good Results w a i k _ (test-passed _ _ safe) (stor-good v w a i k (on refl) (both-accepted _ _ rest .0))
+    step-good (Jump u) lim on reach owed = jump-good u (target-exists u reach) (both-accepted _ _ owed .0)
+    step-good (Bltu i u o) lim on reach owed =
+        let (first, rest) = both-accepted (claimsJudged l (factsAlong Next (Bltu i u o) (factsOf cs)) (pointAt ps (c .point + 1))) _ owed in
+        bltu-good i u o (on refl) (target-exists u reach) first (both-accepted _ _ rest .0)
+    step-good (Bequ i u o) lim on reach owed =
+        let (first, rest) = both-accepted (claimsJudged l (factsAlong Next (Bequ i u o) (factsOf cs)) (pointAt ps (c .point + 1))) _ owed in
+        bequ-good i u o (on refl) (target-exists u reach) first (both-accepted _ _ rest .0)
