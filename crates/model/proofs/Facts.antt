@@ -55,8 +55,10 @@ unclaimed-ends v h = (eqb-true _ _ (and-left (eqb (lo (unclaimed .ranges) v) 0) 
   where
     ends : ℕ → Bool
     ends v = eqb (lo (unclaimed .ranges) v) 0 && eqb (hi (unclaimed .ranges) v) (unclaimedRange v .hi)
+
     computed : everyBelow ends variables ≡ true
     computed = refl
+
     t : ends v ≡ true
     t = every-below ends variables computed v h
 
@@ -81,6 +83,7 @@ top-small v = go (decLt v variables)
     below : (b : Bool) → (cond b registerRange sizeRange) .hi ≤ MAX
     below true = omega arith
     below false = omega arith
+
     go : Dec (v < variables) → top v ≤ MAX
     go (yes i) = omega (arith, top-claimed v i, below (ltb v registers))
     go (no n) = omega (arith, top-past v (omega arith))
@@ -117,6 +120,7 @@ narrow-set rs v r h k u = go (decLt v (length rs)) (ℕ-discrete u v)
   where
     Fine : ℕ → Range → Type 0
     Fine u q = q .hi ≤ top u
+
     go : Dec (v < length rs) → Dec (u ≡ v) → Fine u (rangeOf (set rs v r) u)
     go (yes i) (yes e) = subst (λ (w : ℕ). Fine w (rangeOf (set rs v r) w)) (sym e) (subst (Fine v) (sym (getD-set-same rs v r (exactly 0) i)) k)
     go (yes i) (no n) = subst (Fine u) (sym (getD-set-other rs v u r (exactly 0) n)) (h u)

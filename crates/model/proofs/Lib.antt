@@ -10,3 +10,6 @@ pub mod Limits
 pub mod Reading
 pub mod Facts
 pub mod Stepping
+pub mod Steps
+pub mod Runs
+pub mod Safety

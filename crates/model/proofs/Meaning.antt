@@ -55,6 +55,7 @@ module _ (vs : List ℕ) where
       where
         inside : ℕ → Bool
         inside v = inRange (valueAt vs v) (rangeOf (f .ranges) v)
+
         go : (v : ℕ) → Dec (v < variables) → InRange (valueAt vs v) (rangeOf (f .ranges) v)
         go v (yes h) =
             let t : inside v ≡ true = every-below inside variables (and-left (everyBelow inside variables) _ e) v h in

@@ -28,6 +28,15 @@ pub test-passed : (b : Bool) (r : Refusal) → cond b Accepted (refused r) ≡ A
 test-passed true r e = refl
 test-passed false r e = let z : _≡_ {A = ℕ} 0 1 = cc in absurd (omega arith)
 
+-- and the other way round
+pub accepted-both : (j k : Judgement) → j ≡ Accepted → k ≡ Accepted → (j andThen k) ≡ Accepted
+accepted-both Accepted k e f = f
+accepted-both (refused r) k e f = e
+
+pub passed-test : (b : Bool) (r : Refusal) → b ≡ true → cond b Accepted (refused r) ≡ Accepted
+passed-test true r e = refl
+passed-test false r e = absurd (false≢true e)
+
 -- a point lies within the limits, and its claims stand on the lines before its instruction
 pub record PointLimited (q : Point) : Type 0 where
   pub instruction : Limited (q .instruction)

@@ -62,7 +62,7 @@ module _ (n m : ℕ) (c : Config) (t : Typed n m c) (d x : ℕ) (inside-d : d < 
 
 -- the size of a table is the value of its variable
 module _ (n m : ℕ) (c : Config) (t : Typed n m c) where
-  size-value : (b : Table) → valueOf c (sizeVariable b) ≡ length (tableOf b c)
+  pub size-value : (b : Table) → valueOf c (sizeVariable b) ≡ length (tableOf b c)
   size-value Trays = getD-at (c .registers) _ _ 0 registers (t .registers)
   size-value Results =
       let e : getD (values c) (length (c .registers) + 1) 0 ≡ length (c .results) = getD-append-add (c .registers) _ 1 0 in
@@ -218,7 +218,7 @@ module _ (ps : List Point) (limited : All PointLimited ps) (n m : ℕ) where
     target-exists : (u : ℕ) → targetsExist (length ps) l (u ∷ []) ≡ Accepted → u < length ps
     target-exists u e = ltb-true u (length ps) (test-passed (ltb u (length ps)) (NoSuchTarget l) (both-accepted _ _ e .0))
 
-    step-good : (i : Instruction) → Limited i → (goesOn i ≡ true → c .point + 1 < length ps) → targetsExist (length ps) l (targets i) ≡ Accepted
+    pub step-good : (i : Instruction) → Limited i → (goesOn i ≡ true → c .point + 1 < length ps) → targetsExist (length ps) l (targets i) ≡ Accepted
         → pointJudged ps (c .point) (record { line = l; claims = cs; instruction = i }) ≡ Accepted → StepGood ps n m (c .trays) (stepOf i c)
     unfolding stepOf pointJudged safetyJudged
     step-good Stop lim on reach owed = tt
