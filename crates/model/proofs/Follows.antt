@@ -68,12 +68,12 @@ module _ (val : ℕ → ℕ) (f : Facts) (h : Met val f) where
       (λ d.
       let ey : s .y ≡ g .y = eqb-true _ _ (and-left _ _ d) in
       let new : Holds val (overY s g) = sound (overY s g) (and-right (eqb (s .y) (g .y)) _ d) in
-      replaced (g .a) (val (g .y)) (val (g .z)) (val (s .x)) (s .plus) (s .minus) (g .plus) (g .minus) (val (g .x)) (rw ey at step) new)
+      replaced (g .a) (val (g .y)) (val (g .z)) (val (s .x)) (s .plus) (s .minus) (g .plus) (g .minus) (val (g .x)) (rw ey at step) (omega arith))
       (λ d.
       let ez : s .y ≡ g .z = eqb-true _ _ (and-left _ _ d) in
       let new : Holds val (overZ s g) = sound (overZ s g) (and-right (eqb (s .y) (g .z)) _ d) in
       rw (add-comm (val (g .y)) (val (g .z)))
-      (replaced (g .a) (val (g .z)) (val (g .y)) (val (s .x)) (s .plus) (s .minus) (g .plus) (g .minus) (val (g .x)) (rw ez at step) (rw (add-comm (val (g .y)) (val (s .x))) at new)))
+      (replaced (g .a) (val (g .z)) (val (g .y)) (val (s .x)) (s .plus) (s .minus) (g .plus) (g .minus) (val (g .x)) (rw ez at step) (omega (arith, ap (λ (k : ℕ). g .a * k) (add-comm (val (g .y)) (val (s .x)))))))
 
   -- a stripe goal that follows within n links holds
   pub follows-holds : (n : ℕ) (g : Stripe) → follows f n g ≡ true → Holds val g

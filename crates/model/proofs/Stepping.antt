@@ -143,9 +143,8 @@ module _ (ps : List Point) (limited : All PointLimited ps) (n m : ℕ) where
     unfolding stepOf
     divf-good d i o in-d on safe e =
         let x = quotient (valueOf c i) (operandValue c o) in
-        let low = leb-true 1 (operandRange (factsOf cs .ranges) o .lo) safe in
         let r = in-operand (values c) (factsOf cs) h o in
-        let pos : 0 < operandValue c o = omega arith in
+        let pos : 0 < operandValue c o = omega (arith, leb-true) in
         let small : x ≤ MAX = div-small (valueOf c i) (operandValue c o) MAX pos (small-value (valueOf c) (t .bounded) i) in
         cond-cases (StepGood ps n m (c .trays)) (eqb (operandValue c o) 0) errorState (next (wrote c d x))
         (λ z. omega (arith, eqb-true))

@@ -1,7 +1,7 @@
 -- Stripes that hold before a step and after it. Assumes nothing.
-use mathlib.Core.Path.{_≡_, refl, ap, sym}
+use mathlib.Core.Path.{_≡_, refl, ap, sym, _∙_}
 use mathlib.Core.Logic.{_≢_}
-use mathlib.Core.Bool.{Bool, true, false, _||_, not, cond}
+use mathlib.Core.Bool.{Bool, true, false, not, cond, or-true, false≢true}
 use mathlib.Core.List.{List, [], _∷_, map}
 use Prim.Native.Nat.{ℕ, _+_, _*_, _≤_}
 use native.Mathlib.Nat.{mul-add}
@@ -13,7 +13,7 @@ use Rattle.model.specs.Types.{Stripe}
 use Rattle.model.specs.Limits.{blankVariable}
 use Rattle.model.specs.Lists.{kept}
 use Rattle.model.specs.Transfer.{names, dropped, boundInLimits, ifIs, shifted, allShifted, apart, byNumber}
-use Rattle.model.proofs.Tests.{or-false, cond-cases}
+use Rattle.model.proofs.Tests.{cond-cases}
 use Rattle.model.proofs.Meaning.{Holds, AllHold}
 use Rattle.model.proofs.Ranges.{OnlyAt}
 
@@ -38,11 +38,21 @@ apart-holds val u v p m z h = omega arith
 
 -- a stripe that does not name d holds after a write of d
 module _ (d : ℕ) (val val′ : ℕ → ℕ) (same : OnlyAt d val val′) where
+  -- each of x, y, z that is d is named
+  named-x : (s : Stripe) → s .x ≡ d → names d s ≡ true
+  named-x s e = simp (eq-eqb _ _ e)
+
+  named-y : (s : Stripe) → s .y ≡ d → names d s ≡ true
+  named-y s e = simp (eq-eqb _ _ e, or-true)
+
+  named-z : (s : Stripe) → s .z ≡ d → names d s ≡ true
+  named-z s e = simp (eq-eqb _ _ e, or-true)
+
   unnamed : (s : Stripe) → names d s ≡ false → Holds val s → Holds val′ s
-  unnamed s e h =
-      let (nxy, nz) = or-false (eqb (s .x) d || eqb (s .y) d) _ e in
-      let (nx, ny) = or-false (eqb (s .x) d) _ nxy in
-      rw (same (s .x) (eqb-false _ _ nx), same (s .y) (eqb-false _ _ ny), same (s .z) (eqb-false _ _ nz)) h
+  unnamed s e h = rw (same (s .x) (other (named-x s)), same (s .y) (other (named-y s)), same (s .z) (other (named-z s))) h
+    where
+      other : {P : Type 0} → (P → names d s ≡ true) → P → ⊥
+      other f p = false≢true (sym e ∙ f p)
 
   pub dropped-hold : (ss : List Stripe) → AllHold val ss → AllHold val′ (dropped d ss)
   unfolding kept

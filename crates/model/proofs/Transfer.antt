@@ -14,7 +14,7 @@ use Rattle.model.specs.Types.{Width, Table, Operand, variable, number, I
 use Rattle.model.specs.Limits.{MAX, variables, blankVariable, greatestScale}
 use Rattle.model.specs.Facts.{between, exactly, registerRange, Facts, rangeOf, valueAt}
 use Rattle.model.specs.Machine.{operandAt, bytesOf, sum, difference, product, quotient}
-use Rattle.model.specs.Transfer.{nothing, operandRange, sumFits, sumRange, differenceFits, differenceRange, productFits, productRange, quotientRange, below, atLeast, atMost, overlap, without, changed, operandChanged, lessRanges, notLessRanges, equalRanges, unequalRanges, dropped, stripe, apart, byNumber, sumStripes, differenceStripes, productStripes, lessStripes, notLessStripes, equalStripes, factsAlong}
+use Rattle.model.specs.Transfer.{nothing, operandRange, sumFits, sumRange, differenceFits, differenceRange, productFits, productRange, quotientRange, below, atLeast, atMost, overlap, without, hasOneValue, changed, operandChanged, lessRanges, notLessRanges, equalRanges, unequalRanges, dropped, stripe, apart, byNumber, sumStripes, differenceStripes, productStripes, lessStripes, notLessStripes, equalStripes, factsAlong}
 use Rattle.model.proofs.Tests.{and-right, or-false, cond-cases}
 use Rattle.model.proofs.Meaning.{InRange, InRanges, Holds, AllHold, Met}
 use Rattle.model.proofs.Ranges.{OnlyAt, in-set, in-changed, blank-zero}
@@ -55,7 +55,7 @@ module _ (vs : List ℕ) (f : Facts) (h : Met (valueAt vs) f) where
         (λ t. same-hold (valueAt vs) (valueAt vs′) (all-same (eqb-true d i t)) (f .stripes) (h .stripes))
         (λ t.
         let s : valueAt vs′ i ≡ valueAt vs i = same i (λ p. eqb-false d i t (sym p)) in
-        (apart-holds (valueAt vs′) d i 0 0 zero′ (omega arith), (apart-holds (valueAt vs′) i d 0 0 zero′ (omega arith), dropped-met))))
+        (apart-holds (valueAt vs′) _ _ _ _ zero′ (omega arith), (apart-holds (valueAt vs′) _ _ _ _ zero′ (omega arith), dropped-met))))
       where
         all-same : d ≡ i → (v : ℕ) → valueAt vs′ v ≡ valueAt vs v
         all-same p v = go (ℕ-discrete v d)
@@ -122,7 +122,7 @@ module _ (vs : List ℕ) (f : Facts) (h : Met (valueAt vs) f) where
         let b = operandRange (f .ranges) o in
         let ends = mul-ends (a .lo) (a .hi) (valueAt vs i) (b .lo) (b .hi) (operandAt vs o) MAX (r .0) (r .1) (p .0) (p .1) in
         chosen (productFits a b) _ _ _ _
-        (λ t. omega (arith, ends (leb-true _ _ t))) (λ t. product-hold i o (omega (arith, ends (leb-true _ _ t)))) (λ t. omega arith) (λ t. dropped-met)
+        (λ t. omega (arith, ends (omega (arith, leb-true)))) (λ t. product-hold i o (omega (arith, ends (omega (arith, leb-true))))) (λ t. omega arith) (λ t. dropped-met)
 
     pub divf-met : (e : Edge) (i : ℕ) (o : Operand) → 0 < operandAt vs o → valueAt vs′ d ≡ quotient (valueAt vs i) (operandAt vs o) → Met (valueAt vs′) (factsAlong e (Divf d i o) f)
     unfolding factsAlong
@@ -139,7 +139,7 @@ module _ (vs : List ℕ) (f : Facts) (h : Met (valueAt vs) f) where
 
     pub load-met : (e : Edge) (w : Width) (b : Table) (a i k : ℕ) → valueAt vs′ d < 256 ^ bytesOf w → Met (valueAt vs′) (factsAlong e (Load d w b a i k) f)
     unfolding factsAlong
-    load-met e w b a i k q = written (between 0 (256 ^ bytesOf w - 1)) (dropped d (f .stripes)) (omega arith) dropped-met
+    load-met e w b a i k q = written _ _ (omega arith) dropped-met
 
   -- instructions that change no value
   module _ (long : length (f .ranges) ≡ variables) where
@@ -156,7 +156,7 @@ module _ (vs : List ℕ) (f : Facts) (h : Met (valueAt vs) f) where
 
     module _ (i t : ℕ) (o : Operand) where
       less-hold : (o : Operand) → valueAt vs i < operandAt vs o → AllHold (valueAt vs) (lessStripes i o (f .stripes))
-      less-hold (variable v) q = (apart-holds (valueAt vs) v i 1 0 zero-blank (omega arith), h .stripes)
+      less-hold (variable v) q = (apart-holds (valueAt vs) _ _ _ _ zero-blank (omega arith), h .stripes)
       less-hold (number c) q = h .stripes
 
       pub less-met : (u : ℕ) → valueAt vs i < operandAt vs o → Met (valueAt vs) (factsAlong (Target u) (Bltu i t o) f)
@@ -173,7 +173,7 @@ module _ (vs : List ℕ) (f : Facts) (h : Met (valueAt vs) f) where
           }
 
       not-less-hold : (o : Operand) → operandAt vs o ≤ valueAt vs i → AllHold (valueAt vs) (notLessStripes i o (f .stripes))
-      not-less-hold (variable v) q = (apart-holds (valueAt vs) i v 0 0 zero-blank (omega arith), h .stripes)
+      not-less-hold (variable v) q = (apart-holds (valueAt vs) _ _ _ _ zero-blank (omega arith), h .stripes)
       not-less-hold (number c) q = h .stripes
 
       pub not-less-met : operandAt vs o ≤ valueAt vs i → Met (valueAt vs) (factsAlong Next (Bltu i t o) f)
@@ -187,7 +187,7 @@ module _ (vs : List ℕ) (f : Facts) (h : Met (valueAt vs) f) where
           }
 
       equal-hold : (o : Operand) → valueAt vs i ≡ operandAt vs o → AllHold (valueAt vs) (equalStripes i o (f .stripes))
-      equal-hold (variable v) q = (apart-holds (valueAt vs) v i 0 0 zero-blank (omega arith), (apart-holds (valueAt vs) i v 0 0 zero-blank (omega arith), h .stripes))
+      equal-hold (variable v) q = (apart-holds (valueAt vs) _ _ _ _ zero-blank (omega arith), (apart-holds (valueAt vs) _ _ _ _ zero-blank (omega arith), h .stripes))
       equal-hold (number c) q = h .stripes
 
       pub equal-met : (u : ℕ) → valueAt vs i ≡ operandAt vs o → Met (valueAt vs) (factsAlong (Target u) (Bequ i t o) f)
@@ -213,9 +213,9 @@ module _ (vs : List ℕ) (f : Facts) (h : Met (valueAt vs) f) where
           let b = in-operand o in
           record {
             ranges =
-                cond-cases (InRanges (valueAt vs)) (eqb (operandRange (f .ranges) o .lo) (operandRange (f .ranges) o .hi)) (changed i (without (operandRange (f .ranges) o .lo)) (f .ranges)) (f .ranges)
+                cond-cases (InRanges (valueAt vs)) (hasOneValue (operandRange (f .ranges) o)) (changed i (without (operandRange (f .ranges) o .lo)) (f .ranges)) (f .ranges)
                 (λ z.
-                let c : operandRange (f .ranges) o .lo ≡ operandRange (f .ranges) o .hi = eqb-true _ _ z in
+                let c : operandRange (f .ranges) o .lo ≡ operandRange (f .ranges) o .hi = omega (arith, eqb-true) in
                 in-changed (valueAt vs) (f .ranges) i (without (operandRange (f .ranges) o .lo)) (λ r k. without-in (operandRange (f .ranges) o .lo) (valueAt vs i) r (λ p. q (omega arith)) k) (h .ranges))
                 (λ z. h .ranges);
             stripes = h .stripes;

@@ -49,6 +49,19 @@ c4 =
     ∷ row "STOP" "" "" "" "" "" ""
     ∷ [])
 
+-- C4 with a claim of the last point that does not follow either: 12 is tested before 14
+c4b : List ℕ
+unfolding row rows
+c4b =
+    rows
+    (row "LEAS" "16" "" "" "" "" "4"
+    ∷ row "MOST" "1" "" "" "" "" "0"
+    ∷ row "LOAD" "2" "2" "0" "1" "1" "0"
+    ∷ row "DIVF" "3" "4" "" "" "0" "2"
+    ∷ row "LEAS" "3" "" "" "" "" "1"
+    ∷ row "STOP" "" "" "" "" "" ""
+    ∷ [])
+
 c5 : List ℕ
 unfolding row rows
 c5 =
@@ -147,7 +160,7 @@ abbrev claimsAt : List ℕ → ℕ → List ℕ → Case
 claimsAt l p part = record { given = bytesOut (claimLines l p); stated = bytesOut part }
 
 table : List Case
-unfolding c1 c2 c3 c4 c5 c6 c8 c9 c10 standing ran row
+unfolding c1 c2 c3 c4 c4b c5 c6 c8 c9 c10 standing ran row
 table =
     checked c1 (turnedBack ListingLength)
     ∷ checked c2 (Passed 1)
@@ -155,6 +168,7 @@ table =
     ∷ runs c3 (standing 0 0 0 0) [] [] 5 (ran Paused 5 (standing 0 0 0 0) [] [])
     ∷ checked c4 (turnedBack (DivisorMayBeZero 4))
     ∷ prints c4 "FAIL  12                              4\n"
+    ∷ checked c4b (turnedBack (DivisorMayBeZero 4))
     ∷ checked c5 (Passed 4)
     ∷ prints c5 "PASS                                  4\n"
     ∷ claimsAt c5 2 (row "LEAS" "2" "" "" "" "" "1")

@@ -76,6 +76,10 @@ overlap r q = between (max (r .lo) (q .lo)) (min (r .hi) (q .hi))
 abbrev pub without : ℕ → Range → Range
 without c r = between (cond (eqb (r .lo) c) (c + 1) (r .lo)) (cond (eqb (r .hi) c) (c - 1) (r .hi))
 
+-- the range holds one value alone
+abbrev pub hasOneValue : Range → Bool
+hasOneValue r = eqb (r .lo) (r .hi)
+
 -- one variable's range changed, and an operand's: for a number nothing changes
 abbrev pub changed : ℕ → (Range → Range) → List Range → List Range
 changed v f rs = set rs v (f (rangeOf rs v))
@@ -96,8 +100,7 @@ abbrev pub equalRanges : ℕ → Operand → List Range → List Range
 equalRanges i o rs = operandChanged o (overlap (rangeOf rs i)) (changed i (overlap (operandRange rs o)) rs)
 
 abbrev pub unequalRanges : ℕ → Operand → List Range → List Range
-unequalRanges i o rs =
-    cond (eqb (operandRange rs o .lo) (operandRange rs o .hi)) (changed i (without (operandRange rs o .lo)) rs) rs
+unequalRanges i o rs = cond (hasOneValue (operandRange rs o)) (changed i (without (operandRange rs o .lo)) rs) rs
 
 -- the ranges along an edge of an instruction
 unfoldable pub rangesAlong : Edge → Instruction → List Range → List Range

@@ -2,6 +2,8 @@
 use crate::answers::Refusal;
 use crate::machine::Instruction;
 ghost use mathlib.Core.Path.{_≡_};
+ghost use Rattle.model.specs.Facts;
+ghost use Rattle.model.specs.Facts.{unclaimedRange};
 
 // The values from lo to hi; empty where lo is above hi.
 pub struct Range {
@@ -17,6 +19,27 @@ impl Range {
     };
     // The unclaimed range of a size.
     pub const SIZE: Range = Range { lo: 0, hi: 65_536 };
+
+    // The range from one number to another.
+    pub fn between(lo: u64, hi: u64) -> Range
+        ensures { λ r. ⌜ r ≡ Facts.between lo hi ⌝ }
+    {
+        Range { lo, hi }
+    }
+
+    // The range of one number.
+    pub fn exactly(c: u64) -> Range
+        ensures { λ r. ⌜ r ≡ Facts.exactly c ⌝ }
+    {
+        Range { lo: c, hi: c }
+    }
+
+    // The unclaimed range of a variable.
+    pub fn unclaimed(v: usize) -> Range
+        ensures { λ r. ⌜ r ≡ unclaimedRange v ⌝ }
+    {
+        if v < 16 { Range::REGISTER } else { Range::SIZE }
+    }
 }
 
 // The claim x - a * (y + z) >= plus - minus. A blank z is the number of variables, one past the last.
