@@ -27,17 +27,21 @@ rows : List (List ℕ) → List ℕ
 rows [] = []
 rows (l ∷ ls) = l ++ rows ls
 
+-- C1: no line at all
 c1 : List ℕ
 c1 = []
 
+-- C2: STOP alone
 c2 : List ℕ
 unfolding row rows
 c2 = rows (row "STOP" "" "" "" "" "" "" ∷ [])
 
+-- C3: a JUMP to itself
 c3 : List ℕ
 unfolding row rows
 c3 = rows (row "JUMP" "" "" "" "0" "" "" ∷ [])
 
+-- C4: a divisor that may be 0
 c4 : List ℕ
 unfolding row rows
 c4 =
@@ -62,6 +66,7 @@ c4b =
     ∷ row "STOP" "" "" "" "" "" ""
     ∷ [])
 
+-- C5: C4 with its divisor guarded
 c5 : List ℕ
 unfolding row rows
 c5 =
@@ -106,6 +111,7 @@ c8 n =
     ∷ row "STOP" "" "" "" "" "" ""
     ∷ [])
 
+-- C9: an address that would wrap
 c9 : List ℕ
 unfolding row rows
 c9 =
@@ -117,6 +123,7 @@ c9 =
     ∷ row "STOP" "" "" "" "" "" ""
     ∷ [])
 
+-- C10: a point that nothing reaches, and that still owes its divisor
 c10 : List ℕ
 unfolding row rows
 c10 =
@@ -147,18 +154,23 @@ record Case : Type 0 where
   given : Answer
   stated : Answer
 
+-- the checker's answer
 abbrev checked : List ℕ → Verdict → Case
 checked l v = record { given = verdict (check l); stated = verdict v }
 
+-- the printed line
 abbrev prints : List ℕ → String → Case
 prints l t = record { given = bytesOut (printed (check l)); stated = bytesOut (bytes t) }
 
+-- what a run hands back
 abbrev runs : List ℕ → State → List ℕ → List ℕ → ℕ → Ran → Case
 runs l s ts rs n r = record { given = handedBack (run l s ts rs n); stated = handedBack r }
 
+-- the claim lines of a point
 abbrev claimsAt : List ℕ → ℕ → List ℕ → Case
 claimsAt l p part = record { given = bytesOut (claimLines l p); stated = bytesOut part }
 
+-- all cases
 table : List Case
 unfolding c1 c2 c3 c4 c4b c5 c6 c8 c9 c10 standing ran row
 table =
@@ -190,6 +202,7 @@ given c = c .given
 stated : Case → Answer
 stated c = c .stated
 
+-- the theorem: every answer is the one stated
 worked : map given table ≡ map stated table
 unfolding given stated table check printed run claimLines
 worked = refl

@@ -67,15 +67,17 @@ abbrev pub listingJudged : Listing → Judgement
 listingJudged (readAs ps) = pointsJudged ps (length ps)
 listingJudged (unreadable r) = refused r
 
+-- the answer for n points and what became of their tests
 abbrev pub verdictFrom : ℕ → Judgement → Verdict
 verdictFrom n Accepted = Passed n
 verdictFrom n (refused r) = turnedBack r
 
+-- the answer for a listing that is read or turned back
 abbrev pub verdictOf : Listing → Verdict
 verdictOf (readAs ps) = verdictFrom (length ps) (listingJudged (readAs ps))
 verdictOf (unreadable r) = turnedBack r
 
--- the checker's answer
+-- the checker's answer; a listing is 'passed' if this turns it back by none of 1 to 14
 unfoldable pub check : List ℕ → Verdict
 unfolding listingOf pointsJudged
 check s = verdictOf (listingOf s)

@@ -9,20 +9,23 @@ use Rattle.model.specs.Types.{Range, Stripe, Claim, Leas, Most, Strp}
 use Rattle.model.specs.Limits.{registers, tables, variables, MAX, greatestSize}
 use Rattle.model.specs.Lists.{everyBelow, every}
 
--- the range from one number to another, and of one number alone
+-- the range from one number to another
 abbrev pub between : ℕ → ℕ → Range
 between l h = record { lo = l; hi = h }
 
+-- the range of one number
 abbrev pub exactly : ℕ → Range
 exactly c = between c c
 
--- the unclaimed range of a register, and of a size
+-- the unclaimed range of a register
 abbrev pub registerRange : Range
 registerRange = between 0 MAX
 
+-- the unclaimed range of a size
 abbrev pub sizeRange : Range
 sizeRange = between 0 greatestSize
 
+-- the unclaimed range of a variable
 abbrev pub unclaimedRange : ℕ → Range
 unclaimedRange v = cond (ltb v registers) registerRange sizeRange
 
@@ -39,9 +42,11 @@ unclaimed = record { ranges = replicate registers registerRange ++ replicate tab
 abbrev pub rangeOf : List Range → ℕ → Range
 rangeOf rs v = getD rs v (exactly 0)
 
+-- the low end of a variable
 abbrev pub lo : List Range → ℕ → ℕ
 lo rs v = rangeOf rs v .lo
 
+-- the high end of a variable
 abbrev pub hi : List Range → ℕ → ℕ
 hi rs v = rangeOf rs v .hi
 

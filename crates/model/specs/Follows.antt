@@ -28,14 +28,15 @@ covers s g = sameSides s g && leb (g .plus + s .minus) (s .plus + g .minus)
 abbrev pub atOnce : Facts → Stripe → Bool
 atOnce f g = byRanges (f .ranges) g || some (λ (s : Stripe). covers s g) (f .stripes)
 
--- a stripe that can be a link: u − 1 × v ≥ m with no z
+-- a stripe that can be a 'link': u − 1 × v ≥ m with no z
 abbrev pub isLink : Stripe → Bool
 isLink s = eqb (s .a) 1 && eqb (s .z) blankVariable
 
--- the goal with y, or z, replaced by the link's u, and b by b − a × m
+-- one link over y: y replaced by the link's u, and b by b − a × m
 abbrev pub overY : Stripe → Stripe → Stripe
 overY s g = record { x = g .x; a = g .a; y = s .x; z = g .z; plus = g .plus + g .a * s .minus; minus = g .minus + g .a * s .plus }
 
+-- one link over z: z replaced by the link's u, and b by b − a × m
 abbrev pub overZ : Stripe → Stripe → Stripe
 overZ s g = record { x = g .x; a = g .a; y = g .y; z = s .x; plus = g .plus + g .a * s .minus; minus = g .minus + g .a * s .plus }
 
@@ -43,7 +44,7 @@ overZ s g = record { x = g .x; a = g .a; y = g .y; z = s .x; plus = g .plus + g 
 abbrev pub throughLink : (Stripe → Bool) → Stripe → Stripe → Bool
 throughLink rest g s = isLink s && (eqb (s .y) (g .y) && rest (overY s g) || eqb (s .y) (g .z) && rest (overZ s g))
 
--- the goal follows within n links; their number falls at each use
+-- the goal 'follows' within n links; their number falls at each use
 unfoldable pub follows : Facts → ℕ → Stripe → Bool
 unfolding some
 follows f zero g = atOnce f g

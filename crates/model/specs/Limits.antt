@@ -17,7 +17,7 @@ variables = registers + tables
 abbrev pub blankVariable : ℕ
 blankVariable = variables
 
--- MAX, the greatest value of a register
+-- 'MAX': the greatest value of a register
 abbrev pub MAX : ℕ
 MAX = 4294967295
 
@@ -53,9 +53,10 @@ greatestStripes = 8
 abbrev pub greatestLinks : ℕ
 greatestLinks = 3
 
--- the bytes of a line, and the greatest number of bytes of a listing
+-- the bytes of a line
 abbrev pub lineBytes : ℕ
 lineBytes = 40
 
+-- the greatest number of bytes of a listing
 abbrev pub greatestListing : ℕ
 greatestListing = 65520

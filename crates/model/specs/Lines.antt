@@ -21,10 +21,11 @@ unfoldable pub wellSpelled : List ℕ → Bool
 unfolding printable everyBelow
 wellSpelled l = everyBelow (λ (j : ℕ). printable (getD l j 0)) 39 && eqb (getD l 39 0) lineEnd
 
--- the first column of field j, and its number of columns, all counted from 0
+-- the first column of field j, both counted from 0
 abbrev pub columnOf : ℕ → ℕ
 columnOf j = 4 + j * 4
 
+-- the number of columns of field j
 unfoldable pub widthOf : ℕ → ℕ
 widthOf j = cond (eqb j 5) 15 4
 
@@ -36,25 +37,31 @@ fieldsIn l = at 0 ∷ at 1 ∷ at 2 ∷ at 3 ∷ at 4 ∷ at 5 ∷ []
     at : ℕ → Field
     at j = fieldOf l (columnOf j) (widthOf j)
 
--- field j, counted from 0, and the numbers of F1 to F6
+-- field j, counted from 0
 abbrev pub fieldAt : List Field → ℕ → Field
 fieldAt fs j = getD fs j Blank
 
+-- the number of F1
 abbrev pub F1 : List Field → ℕ
 F1 fs = valueIn (fieldAt fs 0)
 
+-- the number of F2
 abbrev pub F2 : List Field → ℕ
 F2 fs = valueIn (fieldAt fs 1)
 
+-- the number of F3
 abbrev pub F3 : List Field → ℕ
 F3 fs = valueIn (fieldAt fs 2)
 
+-- the number of F4
 abbrev pub F4 : List Field → ℕ
 F4 fs = valueIn (fieldAt fs 3)
 
+-- the number of F5
 abbrev pub F5 : List Field → ℕ
 F5 fs = valueIn (fieldAt fs 4)
 
+-- the number of F6
 abbrev pub F6 : List Field → ℕ
 F6 fs = valueIn (fieldAt fs 5)
 
@@ -78,13 +85,15 @@ unfolding inShape inLimits
 judged place Unknown fs = refused (UnknownWord place)
 judged place (Known w) fs = cond (inShape w fs) (cond (inLimits w fs) Accepted (refused (NumberLimits place))) (refused (FieldShape place))
 
--- the width, the table and the operand that numbers within their limits stand for
+-- the width that a number within its limits stands for
 abbrev pub widthFrom : ℕ → Width
 widthFrom n = cond (eqb n 1) One (cond (eqb n 2) Two Four)
 
+-- the table that a number within its limits stands for
 abbrev pub tableFrom : ℕ → Table
 tableFrom n = cond (eqb n 0) Trays Results
 
+-- 'operand': a variable where F5 is 0, a number where it is 1
 abbrev pub operandFrom : ℕ → ℕ → Operand
 operandFrom choice n = cond (eqb choice 0) (variable n) (number n)
 
@@ -95,13 +104,14 @@ variableOrBlank (Number v) = v
 variableOrBlank (Negative v) = v
 variableOrBlank Misshapen = blankVariable
 
--- a bound as two naturals: what stands without a minus, and what stands with one
+-- what a bound adds: its number where it has no minus
 abbrev pub plusIn : Field → ℕ
 plusIn Blank = 0
 plusIn (Number v) = v
 plusIn (Negative v) = 0
 plusIn Misshapen = 0
 
+-- what a bound takes away: its number where it has a minus
 abbrev pub minusIn : Field → ℕ
 minusIn Blank = 0
 minusIn (Number v) = 0
@@ -128,10 +138,12 @@ lineFrom STRP fs =
     claimLine
     (Strp (record { x = F1 fs; a = F2 fs; y = F3 fs; z = variableOrBlank (fieldAt fs 3); plus = plusIn (fieldAt fs 5); minus = minusIn (fieldAt fs 5) }))
 
+-- the line, where nothing turns it back
 abbrev pub lineOr : Judgement → Line → Line
 lineOr Accepted l = l
 lineOr (refused r) l = refusedLine r
 
+-- the line of a word that was found, or not, with its fields
 abbrev pub lineFound : ℕ → FoundWord → List Field → Line
 lineFound place Unknown fs = lineOr (judged place Unknown fs) (refusedLine (UnknownWord place))
 lineFound place (Known w) fs = lineOr (judged place (Known w) fs) (lineFrom w fs)
@@ -141,14 +153,16 @@ unfoldable pub readLine : ℕ → List ℕ → Line
 unfolding wellSpelled judged wordAmong fieldsIn
 readLine place l = cond (wellSpelled l) (lineFound place (wordAmong words l) (fieldsIn l)) (refusedLine (LineBytes place))
 
--- writing: the four bytes of a word, the first n fields, and a whole line, set in a line
+-- writing: the four bytes of a word set in a line
 unfoldable pub wordSet : List ℕ → List ℕ → List ℕ
 wordSet l t = set (set (set (set l 0 (getD t 0 0)) 1 (getD t 1 0)) 2 (getD t 2 0)) 3 (getD t 3 0)
 
+-- writing: the first n fields set in a line
 abbrev pub fieldsSet : List ℕ → List Field → ℕ → List ℕ
 fieldsSet l fs zero = l
 fieldsSet l fs (suc j) = fieldSet (fieldsSet l fs j) (columnOf j) (widthOf j) (fieldAt fs j)
 
+-- writing: a whole line of a word and six fields
 unfoldable pub lineSet : List ℕ → List ℕ → List Field → List ℕ
 unfolding wordSet fieldSet widthOf
 lineSet l t fs = set (fieldsSet (wordSet l t) fs 6) 39 lineEnd

@@ -11,7 +11,7 @@ use Rattle.model.specs.Answers.{_andThen_}
 use Rattle.model.specs.Lines.{readLine}
 use Rattle.model.specs.Facts.{factsOf, nonEmpty}
 
--- a point: its instruction, the instruction's line counted from 1, and the claims of the lines just before it
+-- a 'point': its instruction, the instruction's line counted from 1, and the claims of the lines just before it
 pub record Point : Type 0 where
   pub line : ℕ
   pub claims : List Claim
@@ -115,11 +115,12 @@ endsWithInstruction lines (c ∷ cs) = refused (LastLineClaim lines)
 abbrev pub fewPoints : List Point → Judgement
 fewPoints ps = cond (leb (length ps) greatestPoints) Accepted (refused (TooManyPoints (pointAt ps greatestPoints .line)))
 
--- 9: every target is a point of the listing, of which there are n
+-- 9: the targets ts of an instruction on line l are points of the listing, of which there are n
 abbrev pub targetsExist : ℕ → ℕ → List ℕ → Judgement
 targetsExist n l [] = Accepted
 targetsExist n l (t ∷ ts) = cond (ltb t n) Accepted (refused (NoSuchTarget l)) andThen targetsExist n l ts
 
+-- 9, for every point in order
 abbrev pub allTargetsExist : ℕ → List Point → Judgement
 allTargetsExist n [] = Accepted
 allTargetsExist n (q ∷ qs) = targetsExist n (q .line) (targets (q .instruction)) andThen allTargetsExist n qs
@@ -143,10 +144,12 @@ pub data Listing : Type 0 where
   readAs : List Point → Listing
   unreadable : Refusal → Listing
 
+-- the points, where nothing turns the listing back
 abbrev pub listingOr : Judgement → List Point → Listing
 listingOr Accepted ps = readAs ps
 listingOr (refused r) ps = unreadable r
 
+-- a listing of so many lines that were read
 abbrev pub listingFrom : ℕ → Reading → Listing
 listingFrom lines (turned r) = unreadable r
 listingFrom lines (going ps cs) = listingOr (wholeJudged lines ps cs) ps
@@ -181,6 +184,7 @@ claimLinesJudged (unreadable r) p = refused r
 abbrev pub claimPart : List ℕ → Point → List ℕ
 claimPart s q = take (length (q .claims) * lineBytes) (drop ((firstLine q - 1) * lineBytes) s)
 
+-- the part, where nothing turns the call back
 abbrev pub partOr : Judgement → List ℕ → List ℕ
 partOr Accepted l = l
 partOr (refused r) l = []

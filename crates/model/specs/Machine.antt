@@ -18,10 +18,11 @@ pub record Config : Type 0 where
   pub trays : List ℕ
   pub results : List ℕ
 
--- a state with the tables lent to a run, and the state of a configuration
+-- a state with the tables lent to a run
 abbrev pub configOf : State → List ℕ → List ℕ → Config
 configOf s ts rs = record { point = s .point; registers = s .registers; trays = ts; results = rs }
 
+-- the state of a configuration
 abbrev pub stateOf : Config → State
 stateOf c = record { point = c .point; registers = c .registers }
 
@@ -29,6 +30,7 @@ stateOf c = record { point = c .point; registers = c .registers }
 abbrev pub valuesFrom : List ℕ → ℕ → ℕ → List ℕ
 valuesFrom rs n m = rs ++ (n ∷ m ∷ [])
 
+-- the values of all variables in a configuration
 abbrev pub values : Config → List ℕ
 values c = valuesFrom (c .registers) (length (c .trays)) (length (c .results))
 
@@ -37,10 +39,11 @@ abbrev pub operandAt : List ℕ → Operand → ℕ
 operandAt vs (variable v) = valueAt vs v
 operandAt vs (number n) = n
 
--- the value of a variable, and of an operand
+-- the value of a variable
 abbrev pub valueOf : Config → ℕ → ℕ
 valueOf c v = valueAt (values c) v
 
+-- the value of an operand
 abbrev pub operandValue : Config → Operand → ℕ
 operandValue c o = operandAt (values c) o
 
@@ -50,11 +53,12 @@ bytesOf One = 1
 bytesOf Two = 2
 bytesOf Four = 4
 
--- the bytes of a table, and the variable that is its size
+-- the bytes of a table
 abbrev pub tableOf : Table → Config → List ℕ
 tableOf Trays c = c .trays
 tableOf Results c = c .results
 
+-- the variable that is the size of a table
 abbrev pub sizeVariable : Table → ℕ
 sizeVariable Trays = registers
 sizeVariable Results = registers + 1
@@ -69,13 +73,15 @@ unfoldable pub writeBytes : ℕ → List ℕ → ℕ → ℕ → List ℕ
 writeBytes zero l at x = l
 writeBytes (suc w) l at x = writeBytes w (set l at (x % 256)) (at + 1) (x / 256)
 
--- sums, differences and products as registers hold them
+-- a sum as registers hold it
 abbrev pub sum : ℕ → ℕ → ℕ
 sum x y = (x + y) % modulus
 
+-- a difference as registers hold it
 abbrev pub difference : ℕ → ℕ → ℕ
 difference x y = (x + (modulus - y)) % modulus
 
+-- a product as registers hold it
 abbrev pub product : ℕ → ℕ → ℕ
 product x y = x * y % modulus
 
@@ -87,10 +93,11 @@ quotient x y = x / y
 abbrev pub address : ℕ → ℕ → ℕ → ℕ
 address a x k = a * x + k
 
--- on to the next point with one register written, and on to another point
+-- on to the next point, with one register written
 abbrev pub wrote : Config → ℕ → ℕ → Config
 wrote c d x = record { point = c .point + 1; registers = set (c .registers) d x; trays = c .trays; results = c .results }
 
+-- on to another point
 abbrev pub went : Config → ℕ → Config
 went c p = record { point = p; registers = c .registers; trays = c .trays; results = c .results }
 
@@ -98,7 +105,7 @@ went c p = record { point = p; registers = c .registers; trays = c .trays; resul
 abbrev pub stored : Config → List ℕ → Config
 stored c rs = record { point = c .point + 1; registers = c .registers; trays = c .trays; results = rs }
 
--- what comes of a step: a configuration, nothing at STOP, or the error state
+-- what comes of a step: a configuration; 'stopped' at STOP, which makes no step; or the 'error state'
 pub data Step : Type 0 where
   next : Config → Step
   stopped : Step
@@ -127,10 +134,11 @@ stepOf (Jump t) c = next (went c t)
 stepOf (Bltu i t o) c = next (went c (cond (ltb (valueOf c i) (operandValue c o)) t (c .point + 1)))
 stepOf (Bequ i t o) c = next (went c (cond (eqb (valueOf c i) (operandValue c o)) t (c .point + 1)))
 
--- the instruction at a configuration's point, and its step
+-- the instruction at a configuration's point
 abbrev pub instructionAt : List Point → Config → Instruction
 instructionAt ps c = pointAt ps (c .point) .instruction
 
+-- the step from a configuration
 abbrev pub stepAt : List Point → Config → Step
 stepAt ps c = stepOf (instructionAt ps c) c
 

@@ -13,7 +13,7 @@ use Rattle.model.specs.Listing.{Point, pointAt, listingOf, pointsOf, poi
 use Rattle.model.specs.Machine.{Config, configOf, stateOf, valuesFrom, values, Step, next, stopped, errorState, instructionAt, stepOf, stepAt}
 use Rattle.model.specs.Check.{listingJudged, check}
 
--- a state meets the claims of its point, over tables of n and m bytes: the point exists, and the values of all variables meet its facts
+-- a state 'meets the claims' of its point, over tables of n and m bytes: the point exists, and the values of all variables meet its facts
 unfoldable pub meetsClaims : List Point → State → ℕ → ℕ → Bool
 unfolding meets factsOf
 meetsClaims ps s n m =
@@ -39,6 +39,7 @@ pub record Progress : Type 0 where
   pub steps : ℕ
   pub config : Config
 
+-- so many steps, and where they led
 abbrev pub progress : ℕ → Config → Progress
 progress n c = record { steps = n; config = c }
 
@@ -79,7 +80,7 @@ pub record Ran : Type 0 where
   pub trays : List ℕ
   pub results : List ℕ
 
--- stopped where it stands at STOP, else paused
+-- 'stopped' where it stands at STOP, else 'paused'
 abbrev pub finished : List Point → Progress → Ran
 finished ps p = record {
   outcome = record { report = cond (stands ps (p .config)) Stopped Paused; state = stateOf (p .config); steps = p .steps };
@@ -87,6 +88,7 @@ finished ps p = record {
   results = p .config .results;
 }
 
+-- the run, where nothing turns it back
 abbrev pub ranFrom : Judgement → List Point → State → List ℕ → List ℕ → ℕ → Ran
 ranFrom Accepted ps s ts rs budget = finished ps (runFor ps budget (configOf s ts rs))
 ranFrom (refused r) ps s ts rs budget = record { outcome = record { report = notRun r; state = s; steps = 0 }; trays = ts; results = rs }

@@ -35,7 +35,7 @@ abbrev pub AllLend : ℕ → ℕ → List Call → Type 0
 AllLend n m [] = Unit {0}
 AllLend n m (k ∷ ks) = Lends n m k × AllLend n m ks
 
--- a run halted after k of the steps that it makes from c₀: no error led there, the claims of its point are met, the trays are as lent,
+-- a run 'halted' after k of the steps that it makes from c₀: no error led there, the claims of its point are met, the trays are as lent,
 -- the results keep their size, the next step is not the error state, and before the last step it does not stand at STOP
 pub record HaltedWell (ps : List Point) (n m : ℕ) (c₀ : Config) (made k : ℕ) : Type 0 where
   pub config : Config

@@ -8,16 +8,19 @@ use lib.ListN.{getD, set}
 use lib.Dec.{leb, ltb, eqb}
 use Rattle.model.specs.Types.{Shape, Spaces, Zero, Digits, Sign, Signed, Wrong, Field, Blank, Number, Negative, Misshapen}
 
--- the bytes of the format: a space, a minus, the digit 0, the end of a line
+-- the byte that fills a field to the left of a number
 abbrev pub space : ℕ
 space = 32
 
+-- the byte of a minus
 abbrev pub minusSign : ℕ
 minusSign = 45
 
+-- the byte of the digit 0
 abbrev pub digitZero : ℕ
 digitZero = 48
 
+-- the byte that ends a line
 abbrev pub lineEnd : ℕ
 lineEnd = 10
 

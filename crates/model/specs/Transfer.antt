@@ -13,7 +13,7 @@ use Rattle.model.specs.Facts.{between, exactly, registerRange, Facts, ra
 use Rattle.model.specs.Listing.{targets, goesOn}
 use Rattle.model.specs.Machine.{bytesOf, quotient}
 
--- the edges of an instruction: to the next point, then to the target
+-- the edges of an instruction to its successors: to the next point, then to the target
 abbrev pub edges : Instruction → List Edge
 edges i = cond (goesOn i) (Next ∷ []) [] ++ map Target (targets i)
 
@@ -33,38 +33,43 @@ abbrev pub operandRange : List Range → Operand → Range
 operandRange rs (variable v) = rangeOf rs v
 operandRange rs (number c) = exactly c
 
--- ends added, where no sum wraps
+-- ADDW: no sum of the two ranges wraps
 abbrev pub sumFits : Range → Range → Bool
 sumFits r q = leb (r .hi + q .hi) MAX
 
+-- ADDW: ends added
 abbrev pub sumRange : Range → Range → Range
 sumRange r q = between (r .lo + q .lo) (r .hi + q .hi)
 
--- lo(i) − hi(o) to hi(i) − lo(o), where no difference wraps; nothing where the high end falls below 0
+-- SUBW: no difference of the two ranges wraps
 abbrev pub differenceFits : Range → Range → Bool
 differenceFits r q = leb (q .hi) (r .lo)
 
+-- SUBW: lo(i) − hi(o) to hi(i) − lo(o); nothing where the high end falls below 0
 abbrev pub differenceRange : Range → Range → Range
 differenceRange r q = cond (leb (q .lo) (r .hi)) (between (r .lo - q .hi) (r .hi - q .lo)) nothing
 
--- ends multiplied, where no product wraps
+-- MULW: no product of the two ranges wraps
 abbrev pub productFits : Range → Range → Bool
 productFits r q = leb (r .hi * q .hi) MAX
 
+-- MULW: ends multiplied
 abbrev pub productRange : Range → Range → Range
 productRange r q = between (r .lo * q .lo) (r .hi * q .hi)
 
--- lo(i) by hi(o) to hi(i) by the larger of lo(o) and 1; nothing where hi(o) is 0
+-- DIVF: lo(i) by hi(o) to hi(i) by the larger of lo(o) and 1; nothing where hi(o) is 0
 abbrev pub quotientRange : Range → Range → Range
 quotientRange r q = cond (eqb (q .hi) 0) nothing (between (quotient (r .lo) (q .hi)) (quotient (r .hi) (max (q .lo) 1)))
 
--- the high end at most one less than e, the low end at least e, the high end at most e
+-- the high end at most one less than e; nothing where that falls below 0
 abbrev pub below : ℕ → Range → Range
 below e r = cond (eqb e 0) nothing (between (r .lo) (min (r .hi) (e - 1)))
 
+-- the low end at least e
 abbrev pub atLeast : ℕ → Range → Range
 atLeast e r = between (max (r .lo) e) (r .hi)
 
+-- the high end at most e
 abbrev pub atMost : ℕ → Range → Range
 atMost e r = between (r .lo) (min (r .hi) e)
 
@@ -80,25 +85,28 @@ without c r = between (cond (eqb (r .lo) c) (c + 1) (r .lo)) (cond (eqb (r .hi) 
 abbrev pub hasOneValue : Range → Bool
 hasOneValue r = eqb (r .lo) (r .hi)
 
--- one variable's range changed, and an operand's: for a number nothing changes
+-- one variable's range changed
 abbrev pub changed : ℕ → (Range → Range) → List Range → List Range
 changed v f rs = set rs v (f (rangeOf rs v))
 
+-- an operand's range changed; for a number nothing changes
 abbrev pub operandChanged : Operand → (Range → Range) → List Range → List Range
 operandChanged (variable v) f rs = changed v f rs
 operandChanged (number c) f rs = rs
 
--- BLTU taken and not taken
+-- BLTU taken: hi(i) at most hi(o) − 1, lo(o) at least lo(i) + 1
 abbrev pub lessRanges : ℕ → Operand → List Range → List Range
 lessRanges i o rs = operandChanged o (atLeast (rangeOf rs i .lo + 1)) (changed i (below (operandRange rs o .hi)) rs)
 
+-- BLTU not taken: lo(i) at least lo(o), hi(o) at most hi(i)
 abbrev pub notLessRanges : ℕ → Operand → List Range → List Range
 notLessRanges i o rs = operandChanged o (atMost (rangeOf rs i .hi)) (changed i (atLeast (operandRange rs o .lo)) rs)
 
--- BEQU taken and not taken
+-- BEQU taken: both ranges become their overlap
 abbrev pub equalRanges : ℕ → Operand → List Range → List Range
 equalRanges i o rs = operandChanged o (overlap (rangeOf rs i)) (changed i (overlap (operandRange rs o)) rs)
 
+-- BEQU not taken: an end of i equal to the one value of o moves inward
 abbrev pub unequalRanges : ℕ → Operand → List Range → List Range
 unequalRanges i o rs = cond (hasOneValue (operandRange rs o)) (changed i (without (operandRange rs o .lo)) rs) rs
 
@@ -167,29 +175,33 @@ apart u v p m = stripe u 1 v blankVariable p m
 abbrev pub byNumber : ℕ → ℕ → ℕ → ℕ → List Stripe → List Stripe
 byNumber d i up down ss = cond (eqb d i) (allShifted d up down ss) (apart d i up down ∷ apart i d down up ∷ dropped d ss)
 
--- ADDW and SUBW where nothing wraps, MULW where nothing wraps
+-- ADDW where nothing wraps: by a number, or d − (i + o) ≥ 0
 abbrev pub sumStripes : ℕ → ℕ → Operand → List Stripe → List Stripe
 sumStripes d i (variable o) ss = cond (eqb d i || eqb d o) (dropped d ss) (stripe d 1 i o 0 0 ∷ dropped d ss)
 sumStripes d i (number c) ss = byNumber d i c 0 ss
 
+-- SUBW where nothing wraps: by a number, or i − (d + o) ≥ 0
 abbrev pub differenceStripes : ℕ → ℕ → Operand → List Stripe → List Stripe
 differenceStripes d i (variable o) ss = cond (eqb d i || eqb d o) (dropped d ss) (stripe i 1 d o 0 0 ∷ dropped d ss)
 differenceStripes d i (number c) ss = byNumber d i 0 c ss
 
+-- MULW where nothing wraps: d − c × i ≥ 0 for a number c that can be a scale
 abbrev pub productStripes : ℕ → ℕ → Operand → List Stripe → List Stripe
 productStripes d i (variable o) ss = dropped d ss
 productStripes d i (number c) ss =
     cond (leb 1 c && leb c greatestScale && not (eqb d i)) (stripe d c i blankVariable 0 0 ∷ dropped d ss) (dropped d ss)
 
--- BLTU taken: o − i ≥ 1; not taken: i − o ≥ 0; BEQU taken: both differences at least 0
+-- BLTU taken: o − i ≥ 1
 abbrev pub lessStripes : ℕ → Operand → List Stripe → List Stripe
 lessStripes i (variable o) ss = apart o i 1 0 ∷ ss
 lessStripes i (number c) ss = ss
 
+-- BLTU not taken: i − o ≥ 0
 abbrev pub notLessStripes : ℕ → Operand → List Stripe → List Stripe
 notLessStripes i (variable o) ss = apart i o 0 0 ∷ ss
 notLessStripes i (number c) ss = ss
 
+-- BEQU taken: o − i ≥ 0 and i − o ≥ 0
 abbrev pub equalStripes : ℕ → Operand → List Stripe → List Stripe
 equalStripes i (variable o) ss = apart o i 0 0 ∷ apart i o 0 0 ∷ ss
 equalStripes i (number c) ss = ss
@@ -218,6 +230,6 @@ unfoldable pub factsAlong : Edge → Instruction → Facts → Facts
 unfolding rangesAlong stripesAlong
 factsAlong e i f = record { ranges = rangesAlong e i (f .ranges); stripes = stripesAlong e i (f .ranges) (f .stripes) }
 
--- an edge is possible if no range along it is empty
+-- an edge is 'impossible' if a range along it is empty, else possible
 abbrev pub possible : Facts → Bool
 possible f = nonEmpty (f .ranges)

@@ -1,5 +1,6 @@
 -- The declared types of the crate under one roof, with the names that the chapters use for them.
 -- Where two types share the name of a case, the words of a listing are written in capitals, as in the text.
+-- In all chapters a term that document 01 defines stands in single quotes where it is defined.
 pub use Rattle.model.specs.declared.text.Shape.{Shape}
 pub use Rattle.model.specs.declared.text.Shape.the-variants.{Spaces, Zero, Digits, Sign, Signed, Wrong}
 pub use Rattle.model.specs.declared.text.Field.{Field}

@@ -54,9 +54,11 @@ wordAmong (w ∷ ws) l = cond (begins l (textOf w)) (Known w) (wordAmong ws l)
 abbrev row : Kind → Kind → Kind → Kind → Kind → Kind → List Kind
 row f1 f2 f3 f4 f5 f6 = f1 ∷ f2 ∷ f3 ∷ f4 ∷ f5 ∷ f6 ∷ []
 
+-- a field that names a register
 abbrev reg : Kind
 reg = plain aRegister
 
+-- a field that names a variable
 abbrev var : Kind
 var = plain aVariable
 
