@@ -44,10 +44,10 @@ impl Range {
 
 // The claim x - a * (y + z) >= plus - minus. A blank z is the number of variables, one past the last.
 pub struct Stripe {
-    pub x: usize,
-    pub a: u64,
-    pub y: usize,
-    pub z: usize,
+    pub x: u8,
+    pub a: u8,
+    pub y: u8,
+    pub z: u8,
     pub plus: u64,
     pub minus: u64,
 }
