@@ -56,6 +56,7 @@ after-same (going ps cs) k (claimLine c) = rw (order-same ps cs c) (go (inOrderA
   where
     more : scanOf ps (cs ++ (c ∷ [])) ≡ record { points = length ps; claims = length cs + 1; stripes = stripesAmong cs + stripesIn c; last = c }
     more = rw (length-append cs (c ∷ []), stripes-snoc cs c, last-snoc cs c)
+
     go : (b : Bool) → progressOf (cond b (going ps (cs ++ (c ∷ []))) (turned (ClaimOrder (k + 1)))) ≡ cond b (Going (record { points = length ps; claims = length cs + 1; stripes = stripesAmong cs + stripesIn c; last = c })) (Turned (ClaimOrder (k + 1)))
     go true = ap Going more
     go false = refl

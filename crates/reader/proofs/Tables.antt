@@ -23,7 +23,7 @@ use Rattle.reader.specs.Scan.{lineRead, progressOf, coded, noPoint, slot
 use Rattle.reader.specs.declared.scan.Point as code
 use Rattle.reader.proofs.Scanning.{stripes-cons, stripes-snoc}
 
-abbrev noModelPoint : Point
+abbrev pub noModelPoint : Point
 noModelPoint = record { line = 0; claims = []; instruction = Stop }
 
 -- a point that is read: its claims stand on the lines just before its own
@@ -38,6 +38,7 @@ pub record LinesRead (s : List ℕ) (n : ℕ) (ps : List Point) (cs : List Claim
   pub points : length ps ≤ n
   pub claims : length cs ≤ n
   pub stripes : stripesAmong cs ≤ 8
+  pub some : 1 ≤ n → 1 ≤ length ps + length cs
   pub gathered : claimsIn s (n - length cs) (length cs) ≡ cs
   pub each : (i : ℕ) → i < length ps → PointRead s n (pointAt ps i)
   pub table : (i : ℕ) → i < length ps → i ≤ 512 → getD (tableTo s n) i noPoint ≡ coded (pointAt ps i)
@@ -72,6 +73,7 @@ module _ (s : List ℕ) (n : ℕ) (ps : List Point) (cs : List Claim) (read : re
         points = let p = h .points in omega arith;
         claims = omega arith;
         stripes = few;
+        some = λ z. omega arith;
         gathered = rw (long, from, h .gathered, here, e);
         each = λ i k. later (pointAt ps i) (h .each i k);
         table = λ i k l. table-aside s n (rw (read, e)) i l ∙ h .table i k l;
@@ -84,6 +86,7 @@ module _ (s : List ℕ) (n : ℕ) (ps : List Point) (cs : List Claim) (read : re
     points = let p = h .points in rw (length-append ps (q ∷ [])) (omega arith);
     claims = omega arith;
     stripes = omega arith;
+    some = λ z. rw (length-append ps (q ∷ [])) (omega arith);
     gathered = refl;
     each = λ j k. at j k (ℕ-discrete j (length ps));
     table = λ j k l. in-table j k l (ℕ-discrete j (length ps));
@@ -91,23 +94,32 @@ module _ (s : List ℕ) (n : ℕ) (ps : List Point) (cs : List Claim) (read : re
     where
       q : Point
       q = record { line = n + 1; claims = cs; instruction = i }
+
       first : firstLine q - 1 ≡ n - length cs
       first = omega arith
+
       new : PointRead s (suc n) q
       new = let a = h .claims in record { before = omega arith; line = omega arith; stripes = h .stripes; gathered = rw first (h .gathered) }
+
       last : getD (ps ++ (q ∷ [])) (length ps) noModelPoint ≡ q
       last = getD-at ps q [] noModelPoint (length ps) refl
+
       old : (j : ℕ) → j < length ps → getD (ps ++ (q ∷ [])) j noModelPoint ≡ pointAt ps j
       old j k = List·getD-append ps (q ∷ []) noModelPoint j k
+
       inside : (j : ℕ) → j < length (ps ++ (q ∷ [])) → (j ≡ length ps → ⊥) → j < length ps
       inside j k o = let l : length (ps ++ (q ∷ [])) ≡ length ps + 1 = length-append ps (q ∷ []) in omega arith
+
       at : (j : ℕ) → j < length (ps ++ (q ∷ [])) → Dec (j ≡ length ps) → PointRead s (suc n) (pointAt (ps ++ (q ∷ [])) j)
       at j k (yes x) = rw (x, last) new
       at j k (no x) = rw (old j (inside j k x)) (later (pointAt ps j) (h .each j (inside j k x)))
+
       stored : tableTo s (suc n) ≡ set (tableTo s n) (cond (leb (length ps) 512) (length ps) 513) (coded q)
       stored = rw (read, e)
+
       place : length ps ≤ 512 → (cond (leb (length ps) 512) (length ps) 513) ≡ length ps
       place l = rw (le-leb _ _ l)
+
       in-table : (j : ℕ) → j < length (ps ++ (q ∷ [])) → j ≤ 512 → Dec (j ≡ length ps) → getD (tableTo s (suc n)) j noPoint ≡ coded (pointAt (ps ++ (q ∷ [])) j)
       in-table j k l (yes x) =
           let few : length ps ≤ 512 = omega arith in
@@ -131,7 +143,7 @@ read-line s n (going ps cs) e (instructionLine i) f h = point-more s n ps cs e h
 -- what is known after n lines
 pub read-so : (s : List ℕ) (n : ℕ) → ReadSo s n (readTo s n)
 unfolding readTo claimsIn
-read-so s zero = record { points = omega arith; claims = omega arith; stripes = omega arith; gathered = refl; each = λ i k. absurd (not-suc-le-zero k); table = λ i k l. absurd (not-suc-le-zero k) }
+read-so s zero = record { points = omega arith; claims = omega arith; stripes = omega arith; some = λ z. absurd (not-suc-le-zero z); gathered = refl; each = λ i k. absurd (not-suc-le-zero k); table = λ i k l. absurd (not-suc-le-zero k) }
 read-so s (suc n) = read-line s n (readTo s n) refl (lineRead s n) refl (read-so s n)
 
 -- the counts that the code keeps

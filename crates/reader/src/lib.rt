@@ -1,2 +1,3 @@
 // From a lent listing to its points: refusals 1 to 11, and the claim lines of a point.
 pub mod scan;
+pub mod whole;

@@ -1,6 +1,7 @@
 // The lines of a listing in order: what has been read so far, and the first refusal.
 use model::answers::Refusal;
-use model::claims::{Claim, Line};
+use model::claims::Claim;
+use model::claims::Line;
 use model::machine::Instruction;
 ghost use mathlib.Core.Path.{_≡_};
 ghost use Prim.Native.Nat.{_+_, _≤_, _<_};
