@@ -16,5 +16,6 @@ refused-stays ps r n (suc k) e = go (refused-stays ps r n k e)
   where
     more : n + suc k ≡ suc (n + k)
     more = omega arith
+
     go : pointsJudged ps (n + k) ≡ refused r → pointsJudged ps (n + suc k) ≡ refused r
     go h = rw (more, h)

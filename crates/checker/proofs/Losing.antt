@@ -26,6 +26,7 @@ first-snoc f m (b ∷ cs) c h = go (claimFollows f b) (first-snoc f (m + 1) cs c
   where
     shift : m + 1 + length cs ≡ m + suc (length cs)
     shift = omega arith
+
     go : (t : Bool) → firstLost f (m + 1) (cs ++ (c ∷ [])) ≡ cond (eqb (firstLost f (m + 1) cs) 0) (cond (claimFollows f c) 0 (m + 1 + length cs)) (firstLost f (m + 1) cs)
         → cond t (firstLost f (m + 1) (cs ++ (c ∷ []))) m ≡ cond (eqb (cond t (firstLost f (m + 1) cs) m) 0) (cond (claimFollows f c) 0 (m + suc (length cs))) (cond t (firstLost f (m + 1) cs) m)
     go true e = rw shift at e
@@ -64,5 +65,6 @@ module _ (s : List ℕ) (f : Facts) (from : ℕ) where
     where
       more : n + suc k ≡ suc (n + k)
       more = omega arith
+
       go : lostTo s f from (n + k) ≡ lostTo s f from n → lostTo s f from (n + suc k) ≡ lostTo s f from n
       go e = rw (more, e, ne-eqb (lostTo s f from n) 0 h)

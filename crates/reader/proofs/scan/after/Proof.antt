@@ -4,60 +4,44 @@ use Rattle.reader.specs.declared.scan.Progress.the-variants.{Going}
 use borrow.Author.Needs.{needs}
 use Rattle.reader.proofs.scan.after.Statement.{statement}
 use Rattle.reader.proofs.scan.after.Tie as tie
-use Rattle.reader.proofs.scan.after.Reads as reads
-use Rattle.reader.proofs.scan.after.Lts as lts
-use Rattle.reader.proofs.scan.after_claim.Reads as after-claim-reads
-use Rattle.reader.proofs.scan.no_claim.Reads as no-claim-reads
 
--- src/scan.rt:132:26
 enum-known-p : tie.Need-enum-known-p
 enum-known-p c = search needs
 
--- src/scan.rt:133:25
 enum-known-p-2 : tie.Need-enum-known-p-2
 enum-known-p-2 c = search needs
 
--- src/scan.rt:134:27
 enum-known-l : tie.Need-enum-known-l
 enum-known-l c = search needs
 
--- src/scan.rt:135:25
 enum-known-l-2 : tie.Need-enum-known-l-2
 enum-known-l-2 c = search needs
 
--- src/scan.rt:135:31
 after-claim-requires : tie.Need-after-claim-requires
 after-claim-requires c κs =
     let w : Within (Going (c .before .before .before .before .p2 .given .0 .0)) (c .before .before .before .before .before .before .args .k) = rw (c .before .before .before .before .p2 .given .1) at (c .before .before .before .before .before .before .pre .1) in
     (c .before .before .before .before .before .before .pre .0, w .1, w .2)
 
--- src/scan.rt:137:25
 enum-told : tie.Need-enum-told
 enum-told c = search needs
 
--- src/scan.rt:137:25
 add-t10 : tie.Need-add-t10
 add-t10 c =
     let w : Within (Going (c .before .before .before .before .p2 .given .0 .0)) (c .before .before .before .before .before .before .args .k) = rw (c .before .before .before .before .p2 .given .1) at (c .before .before .before .before .before .before .pre .1) in
     omega arith
 
--- src/scan.rt:140:23
 no-claim-requires : tie.Need-no-claim-requires
 no-claim-requires c κs = search needs
 
--- src/scan.rt:127:1
 returns : tie.Need-returns
 returns c = simp (c .before .p .given .1)
 
--- src/scan.rt:127:1
 returns-2 : tie.Need-returns-2
 returns-2 c = simp (c .before .l .given .1, c .before .before .before .before .p2 .given .1)
 
--- src/scan.rt:127:1
 returns-3 : tie.Need-returns-3
 returns-3 c = simp (← c .after-claim .ensures, c .before .before .l2 .given .1, c .before .before .before .before .before .p2 .given .1)
 
--- src/scan.rt:127:1
 returns-4 : tie.Need-returns-4
 returns-4 c = simp (← c .no-claim .ensures, c .before .before .enum-told .given .1, c .before .before .before .before .before .p2 .given .1)
 

@@ -2,32 +2,22 @@ use borrow.Author.Tests.{eq-eqb, le-ltb, lt-ltb, ne-eqb}
 use borrow.Author.Needs.{needs}
 use Rattle.reader.proofs.scan.in_order.Statement.{statement}
 use Rattle.reader.proofs.scan.in_order.Tie as tie
-use Rattle.reader.proofs.scan.in_order.Reads as reads
-use Rattle.reader.proofs.scan.in_order.Lts as lts
-use Rattle.reader.proofs.scan.may_follow.Reads as may-follow-reads
-use Rattle.reader.proofs.scan.stripes_in.Reads as stripes-in-reads
 
--- src/scan.rt:100:24
 stripes-in-requires : tie.Need-stripes-in-requires
 stripes-in-requires c κs = search needs
 
--- src/scan.rt:100:12
 add-if1 : tie.Need-add-if1
 add-if1 c = search needs
 
--- src/scan.rt:101:9
 returns : tie.Need-returns
 returns c = simp (lt-ltb _ _ (c .if1 .taken), ← c .before .before .stripes-in .ensures .0)
 
--- src/scan.rt:104:9
 returns-2 : tie.Need-returns-2
 returns-2 c = simp (eq-eqb _ _ (c .if2 .taken), le-ltb _ _ (c .before .before .if1 .left), ← c .before .before .before .before .stripes-in .ensures .0)
 
--- src/scan.rt:107:5
 may-follow-requires : tie.Need-may-follow-requires
 may-follow-requires c κs = search needs
 
--- src/scan.rt:96:1
 returns-3 : tie.Need-returns-3
 returns-3 c = simp (← c .may-follow .ensures, ne-eqb _ _ (c .before .if2 .left), le-ltb _ _ (c .before .before .before .if1 .left), ← c .before .before .before .before .before .stripes-in .ensures .0)
 

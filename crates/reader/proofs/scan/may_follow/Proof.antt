@@ -1,90 +1,67 @@
 use borrow.Author.Needs.{needs}
 use Rattle.reader.proofs.scan.may_follow.Statement.{statement}
 use Rattle.reader.proofs.scan.may_follow.Tie as tie
-use Rattle.reader.proofs.scan.may_follow.Reads as reads
-use Rattle.reader.proofs.scan.may_follow.Lts as lts
 
--- src/scan.rt:66:26
 enum-known-b : tie.Need-enum-known-b
 enum-known-b c = search needs
 
--- src/scan.rt:67:27
 enum-known-c : tie.Need-enum-known-c
 enum-known-c c = search needs
 
--- src/scan.rt:68:46
 enum-told : tie.Need-enum-told
 enum-told c = search needs
 
--- src/scan.rt:69:31
 enum-told-2 : tie.Need-enum-told-2
 enum-told-2 c = search needs
 
--- src/scan.rt:71:26
 enum-known-b-2 : tie.Need-enum-known-b-2
 enum-known-b-2 c = search needs
 
--- src/scan.rt:72:47
 enum-told-3 : tie.Need-enum-told-3
 enum-told-3 c = search needs
 
--- src/scan.rt:73:27
 enum-known-c-2 : tie.Need-enum-known-c-2
 enum-known-c-2 c = search needs
 
--- src/scan.rt:74:31
 enum-told-4 : tie.Need-enum-told-4
 enum-told-4 c = search needs
 
--- src/scan.rt:76:27
 enum-told-5 : tie.Need-enum-told-5
 enum-told-5 c = search needs
 
--- src/scan.rt:77:47
 enum-told-6 : tie.Need-enum-told-6
 enum-told-6 c = search needs
 
--- src/scan.rt:78:46
 enum-told-7 : tie.Need-enum-told-7
 enum-told-7 c = search needs
 
--- src/scan.rt:79:31
 enum-told-8 : tie.Need-enum-told-8
 enum-told-8 c = search needs
 
--- src/scan.rt:62:1
 returns : tie.Need-returns
 returns c = simp (c .before .c .given .1, c .before .before .before .before .b .given .1)
 
--- src/scan.rt:62:1
 returns-2 : tie.Need-returns-2
 returns-2 c = search needs
 
--- src/scan.rt:62:1
 returns-3 : tie.Need-returns-3
 returns-3 c = search needs
 
--- src/scan.rt:62:1
 returns-4 : tie.Need-returns-4
 returns-4 c = search needs
 
--- src/scan.rt:62:1
 returns-5 : tie.Need-returns-5
 returns-5 c = simp (c .before .c2 .given .1, c .before .before .before .before .b2 .given .1)
 
--- src/scan.rt:62:1
 returns-6 : tie.Need-returns-6
 returns-6 c = search needs
 
--- src/scan.rt:62:1
 returns-7 : tie.Need-returns-7
 returns-7 c = search needs
 
--- src/scan.rt:62:1
 returns-8 : tie.Need-returns-8
 returns-8 c = search needs
 
--- src/scan.rt:62:1
 returns-9 : tie.Need-returns-9
 returns-9 c = search needs
 

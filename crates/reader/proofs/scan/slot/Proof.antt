@@ -3,46 +3,34 @@ use borrow.Author.Tests.{le-leb, lt-leb}
 use borrow.Author.Needs.{needs}
 use Rattle.reader.proofs.scan.slot.Statement.{statement}
 use Rattle.reader.proofs.scan.slot.Tie as tie
-use Rattle.reader.proofs.scan.slot.Reads as reads
-use Rattle.reader.proofs.scan.slot.Lts as lts
 
--- src/scan.rt:151:32
 enum-told : tie.Need-enum-told
 enum-told c = search needs
 
--- src/scan.rt:152:25
 enum-known-p : tie.Need-enum-known-p
 enum-known-p c = search needs
 
--- src/scan.rt:153:33
 enum-told-2 : tie.Need-enum-told-2
 enum-told-2 c = search needs
 
--- src/scan.rt:154:31
 enum-told-3 : tie.Need-enum-told-3
 enum-told-3 c = search needs
 
--- src/scan.rt:156:21
 enum-told-4 : tie.Need-enum-told-4
 enum-told-4 c = search needs
 
--- src/scan.rt:158:21
 returns : tie.Need-returns
 returns c = (simp (le-leb _ _ (c .if1 .taken), c .before .enum-told4 .given .1, c .before .before .before .before .p .given .1), omega arith)
 
--- src/scan.rt:147:1
 returns-2 : tie.Need-returns-2
 returns-2 c = search needs
 
--- src/scan.rt:147:1
 returns-3 : tie.Need-returns-3
 returns-3 c = search needs
 
--- src/scan.rt:147:1
 returns-4 : tie.Need-returns-4
 returns-4 c = search needs
 
--- src/scan.rt:147:1
 returns-5 : tie.Need-returns-5
 returns-5 c = (simp (lt-leb _ _ (c .if1 .left), c .before .enum-told4 .given .1, c .before .before .before .before .p .given .1), omega arith)
 

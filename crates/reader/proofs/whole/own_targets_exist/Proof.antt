@@ -1,115 +1,85 @@
 use borrow.Author.Needs.{needs}
 use Rattle.reader.proofs.whole.own_targets_exist.Statement.{statement}
 use Rattle.reader.proofs.whole.own_targets_exist.Tie as tie
-use Rattle.reader.proofs.whole.own_targets_exist.Reads as reads
-use Rattle.reader.proofs.whole.own_targets_exist.Lts as lts
-use Rattle.reader.proofs.whole.target_exists.Reads as target-exists-reads
 
--- src/whole.rt:70:30
 enum-told : tie.Need-enum-told
 enum-told c = search needs
 
--- src/whole.rt:71:45
 enum-told-2 : tie.Need-enum-told-2
 enum-told-2 c = search needs
 
--- src/whole.rt:72:45
 enum-told-3 : tie.Need-enum-told-3
 enum-told-3 c = search needs
 
--- src/whole.rt:73:51
 enum-told-4 : tie.Need-enum-told-4
 enum-told-4 c = search needs
 
--- src/whole.rt:74:51
 enum-told-5 : tie.Need-enum-told-5
 enum-told-5 c = search needs
 
--- src/whole.rt:75:51
 enum-told-6 : tie.Need-enum-told-6
 enum-told-6 c = search needs
 
--- src/whole.rt:76:51
 enum-told-7 : tie.Need-enum-told-7
 enum-told-7 c = search needs
 
--- src/whole.rt:84:14
 enum-told-8 : tie.Need-enum-told-8
 enum-told-8 c = search needs
 
--- src/whole.rt:91:14
 enum-told-9 : tie.Need-enum-told-9
 enum-told-9 c = search needs
 
--- src/whole.rt:92:29
 enum-known-i : tie.Need-enum-known-i
 enum-known-i c = search needs
 
--- src/whole.rt:92:36
 target-exists-requires : tie.Need-target-exists-requires
 target-exists-requires c κs = search needs
 
--- src/whole.rt:93:35
 enum-known-i-2 : tie.Need-enum-known-i-2
 enum-known-i-2 c = search needs
 
--- src/whole.rt:93:48
 target-exists-requires-2 : tie.Need-target-exists-requires-2
 target-exists-requires-2 c κs = search needs
 
--- src/whole.rt:94:35
 enum-known-i-3 : tie.Need-enum-known-i-3
 enum-known-i-3 c = search needs
 
--- src/whole.rt:94:48
 target-exists-requires-3 : tie.Need-target-exists-requires-3
 target-exists-requires-3 c κs = search needs
 
--- src/whole.rt:66:1
 returns : tie.Need-returns
 returns c = search needs
 
--- src/whole.rt:66:1
 returns-2 : tie.Need-returns-2
 returns-2 c = search needs
 
--- src/whole.rt:66:1
 returns-3 : tie.Need-returns-3
 returns-3 c = search needs
 
--- src/whole.rt:66:1
 returns-4 : tie.Need-returns-4
 returns-4 c = search needs
 
--- src/whole.rt:66:1
 returns-5 : tie.Need-returns-5
 returns-5 c = search needs
 
--- src/whole.rt:66:1
 returns-6 : tie.Need-returns-6
 returns-6 c = search needs
 
--- src/whole.rt:66:1
 returns-7 : tie.Need-returns-7
 returns-7 c = search needs
 
--- src/whole.rt:66:1
 returns-8 : tie.Need-returns-8
 returns-8 c = search needs
 
--- src/whole.rt:66:1
 returns-9 : tie.Need-returns-9
 returns-9 c = search needs
 
--- src/whole.rt:66:1
 returns-10 : tie.Need-returns-10
 returns-10 c = simp (← c .target-exists .ensures, c .before .before .i .given .1)
 
--- src/whole.rt:66:1
 returns-11 : tie.Need-returns-11
 returns-11 c = simp (← c .target-exists2 .ensures, c .before .before .i2 .given .1)
 
--- src/whole.rt:66:1
 returns-12 : tie.Need-returns-12
 returns-12 c = simp (← c .target-exists3 .ensures, c .before .before .i3 .given .1)
 

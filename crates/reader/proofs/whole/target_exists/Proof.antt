@@ -1,14 +1,10 @@
 use borrow.Author.Tests.{le-ltb, lt-ltb}
 use Rattle.reader.proofs.whole.target_exists.Statement.{statement}
 use Rattle.reader.proofs.whole.target_exists.Tie as tie
-use Rattle.reader.proofs.whole.target_exists.Reads as reads
-use Rattle.reader.proofs.whole.target_exists.Lts as lts
 
--- src/whole.rt:60:9
 returns : tie.Need-returns
 returns c = simp (lt-ltb _ _ (c .if1 .taken))
 
--- src/whole.rt:56:1
 returns-2 : tie.Need-returns-2
 returns-2 c = simp (le-ltb _ _ (c .if1 .left))
 

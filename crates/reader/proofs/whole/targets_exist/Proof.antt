@@ -6,10 +6,6 @@ use borrow.Author.Needs.{needs}
 use Rattle.reader.specs.Whole.{targetsTo}
 use Rattle.reader.proofs.whole.targets_exist.Statement.{statement}
 use Rattle.reader.proofs.whole.targets_exist.Tie as tie
-use Rattle.reader.proofs.whole.targets_exist.Reads as reads
-use Rattle.reader.proofs.whole.targets_exist.Lts as lts
-use Rattle.reader.proofs.whole.and_then.Reads as and-then-reads
-use Rattle.reader.proofs.whole.own_targets_exist.Reads as own-targets-exist-reads
 
 abbrev Inv-loop : tie.InvT-loop
 Inv-loop n points j₀ p₀ j p = (p ≤ n) × (j ≡ targetsTo points n p)
@@ -17,41 +13,32 @@ Inv-loop n points j₀ p₀ j p = (p ≤ n) × (j ≡ targetsTo points n p)
 abbrev μ-loop : tie.MeasureT-loop
 μ-loop n points j₀ p₀ j p = n - p
 
--- src/whole.rt:105:5
 loop-holds : tie.Need-loop-holds Inv-loop μ-loop
 unfolding targetsTo
 loop-holds c = (omega arith, refl)
 
--- src/whole.rt:106:17
 mul-q : tie.Need-mul-q Inv-loop μ-loop
 mul-q c = omega arith
 
--- src/whole.rt:106:17
 array-copy-out-q : tie.Need-array-copy-out-q Inv-loop μ-loop
 array-copy-out-q c = omega arith
 
--- src/whole.rt:108:25
 own-targets-exist-requires : tie.Need-own-targets-exist-requires Inv-loop μ-loop
 own-targets-exist-requires c κs = search needs
 
--- src/whole.rt:108:9
 and-then-requires : tie.Need-and-then-requires Inv-loop μ-loop
 and-then-requires c κs = search needs
 
--- src/whole.rt:109:9
 add-p : tie.Need-add-p Inv-loop μ-loop
 add-p c = omega arith
 
--- src/whole.rt:105:5
 loop-less : tie.Need-loop-less Inv-loop μ-loop
 loop-less c = omega arith
 
--- src/whole.rt:105:5
 loop-again : tie.Need-loop-again Inv-loop μ-loop
 unfolding targetsTo
 loop-again c = (omega arith, rw (add-one, c .and-then .ensures, c .before .own-targets-exist .ensures, c .before .before .before .before .loop .inv .1))
 
--- src/whole.rt:99:1
 returns : tie.Need-returns Inv-loop μ-loop
 returns c =
     let e : c .before .loop .p ≡ c .before .before .args .n = omega arith in

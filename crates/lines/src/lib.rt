@@ -1,0 +1,2 @@
+// One line of a listing, read and written.
+pub mod write;
