@@ -1,2 +1,8 @@
-// One line of a listing, read and written.
+// The lines of a listing: 40 bytes read as a word and six fields, judged, and read as an instruction or a claim.
+mod claims;
+pub mod columns;
+pub mod fields;
+mod instructions;
+pub mod line;
+pub mod words;
 pub mod write;

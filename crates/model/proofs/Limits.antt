@@ -141,7 +141,7 @@ module _ (fs : List Field) where
         offset = leb-true (F6 fs) greatestOffset (rw r at (field-allowed w e 5 (omega arith)));
       }
 
-  line-limited : (w : Word) → inLimits w fs ≡ true → LineLimited (lineFrom w fs)
+  pub line-limited : (w : Word) → inLimits w fs ≡ true → LineLimited (lineFrom w fs)
   unfolding allowed within fieldsOf
   line-limited STOP e = tt
   line-limited SETC e = (ltb-true (F1 fs) registers (field-allowed SETC e 0 (omega arith)), leb-true (F6 fs) MAX (field-allowed SETC e 5 (omega arith)))

@@ -5,7 +5,7 @@ use mathlib.Core.Path.{_≡_, refl, sym, ap, _∙_}
 use lib.ListN.{length}
 use borrow.Author.Needs.{needs}
 use Rattle.model.specs.Lines.{fieldsSet, widthOf}
-use Rattle.lines.proofs.Columns.{width-fits}
+use Rattle.lines.proofs.Setting.{width-fits}
 use Rattle.lines.proofs.write.set_fields.Statement.{statement}
 use Rattle.lines.proofs.write.set_fields.Tie as tie
 

@@ -1,0 +1,25 @@
+-- A word that is not known is refused before its fields are looked at. Assumes nothing.
+use borrow.Author.Needs.{needs}
+use Rattle.model.specs.Lines.{judged}
+use Rattle.lines.proofs.fields.judge.Statement.{statement}
+use Rattle.lines.proofs.fields.judge.Tie as tie
+
+enum-told : tie.Need-enum-told
+enum-told c = search needs
+
+enum-known-w : tie.Need-enum-known-w
+enum-known-w c = search needs
+
+judge-known-requires : tie.Need-judge-known-requires
+judge-known-requires c κs = search needs
+
+returns : tie.Need-returns
+unfolding judged
+returns c = simp (c .enum-told .given .1)
+
+returns-2 : tie.Need-returns-2
+unfolding judged
+returns-2 c = simp (← c .judge-known .ensures, c .before .before .w .given .1)
+
+pub judge-spec : {M : Type 1} → statement M
+judge-spec = tie.close (tie.spec enum-told enum-known-w judge-known-requires returns returns-2)
