@@ -1,5 +1,6 @@
 // The line that the program prints for an answer.
-use model::answers::{Refusal, Verdict};
+use model::answers::Refusal;
+use model::answers::Verdict;
 use model::text::Field;
 ghost use mathlib.Core.Path.{_≡_};
 ghost use Rattle.model.specs.Answers.{numberOf, placeOf, secondPlaceOf};
@@ -113,14 +114,7 @@ fn fail_fields(r: Refusal) -> [Field; 6]
     let n = Field::Number(number(r));
     let second = place_field(second_place(r));
     let first = Field::Number(place(r));
-    [
-        n,
-        Field::Blank,
-        Field::Blank,
-        Field::Blank,
-        second,
-        first,
-    ]
+    [n, Field::Blank, Field::Blank, Field::Blank, second, first]
 }
 
 // The printed line of an answer.

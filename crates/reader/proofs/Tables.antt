@@ -19,9 +19,9 @@ use Rattle.model.specs.declared.claims.Line.the-variants.{Refused as refusedLin
 use Rattle.model.specs.declared.answers.Refusal.the-variants.{ClaimOrder}
 use Rattle.model.specs.Listing.{Point, firstLine, pointAt, stripesAmong, inOrder, mayFollowAll, Reading, going, turned, afterLine, readTo}
 use Rattle.model.proofs.Tests.{and-right, cond-cases}
-use Rattle.reader.specs.Scan.{lineRead, progressOf, coded, noPoint, slotOf, pointFrom, tableTo, claimOn, claimsIn, Within}
+use Rattle.reader.specs.Scan.{lineRead, progressOf, afterScan, coded, noPoint, slotOf, pointFrom, tableTo, claimOn, claimsIn, Within}
 use Rattle.reader.specs.declared.scan.Point as code
-use Rattle.reader.proofs.Scanning.{stripes-cons, stripes-snoc}
+use Rattle.reader.proofs.Scanning.{stripes-cons, stripes-snoc, after-same}
 
 abbrev pub noModelPoint : Point
 noModelPoint = record { line = 0; claims = []; instruction = Stop }
@@ -51,6 +51,15 @@ pub table-long : (s : List ℕ) (n : ℕ) → length (tableTo s n) ≡ 514
 unfolding tableTo
 table-long s zero = length-replicate 514 noPoint
 table-long s (suc n) = length-set (tableTo s n) _ _ ∙ table-long s n
+
+-- one line more, for the table and for what is kept of the reading
+pub table-next : (s : List ℕ) (n : ℕ) → tableTo s (suc n) ≡ set (tableTo s n) (slotOf (progressOf (readTo s n)) (lineRead s n)) (pointFrom (progressOf (readTo s n)) n (lineRead s n))
+unfolding tableTo
+table-next s n = refl
+
+pub progress-next : (s : List ℕ) (n : ℕ) → progressOf (readTo s (suc n)) ≡ afterScan (progressOf (readTo s n)) n (lineRead s n)
+unfolding readTo
+progress-next s n = after-same (readTo s n) n (lineRead s n)
 
 -- a line that is no instruction goes to the last place
 table-aside : (s : List ℕ) (n : ℕ) → slotOf (progressOf (readTo s n)) (lineRead s n) ≡ 513 → (i : ℕ) → i ≤ 512 → getD (tableTo s (suc n)) i noPoint ≡ getD (tableTo s n) i noPoint
