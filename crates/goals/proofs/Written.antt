@@ -1,0 +1,158 @@
+-- What a row or a link that is written changes. Assumes nothing.
+use mathlib.Core.Path.{_≡_, refl, _∙_}
+use mathlib.Core.List.{List}
+use Prim.Native.Nat.{ℕ, _+_, _*_, _<_, _≤_}
+use native.Mathlib.Decide.{ℕ-discrete}
+use native.Mathlib.Omega.{arith}
+use lib.ListN.{getD, set, length, length-set, replicate, getD-replicate, length-replicate}
+use lib.Seq.{getD-set-same, getD-set-other}
+use Rattle.model.specs.declared.claims.Stripe.{Stripe}
+use Rattle.model.specs.Transfer.{apart}
+use Rattle.goals.specs.Sizes.{greatestPart, stripesAlong, Numbers, Small}
+use Rattle.goals.specs.Rows.{SizedRows, stripeAt, withRow}
+use Rattle.goals.specs.Links.{SizedLinks, linkAt, withLink}
+
+module _ (m b : ℕ) where
+  -- zeros
+  pub zeros : Numbers m b (replicate m 0)
+  zeros = record { long = length-replicate {A = ℕ} m 0; most = λ i h. rw (getD-replicate {A = ℕ} m i 0 0 h) (omega arith) }
+
+  -- one number written
+  pub set-numbers : (l : List ℕ) (j v : ℕ) → v ≤ b → Numbers m b l → Numbers m b (set l j v)
+  set-numbers l j v e n = record { long = length-set l j v ∙ n .long; most = λ i h. go i h (ℕ-discrete i j) }
+    where
+      go : (i : ℕ) → i < m → Dec (i ≡ j) → getD (set l j v) i 0 ≤ b
+      go i h (yes s) = rw s (rw (getD-set-same l j v 0 (omega (arith, n .long))) e)
+      go i h (no s) = rw (getD-set-other l j i v 0 s) (n .most i h)
+
+module _ (l : List ℕ) (j v u p m : ℕ) where
+  abbrev l1 : List ℕ
+  l1 = set l (j * 4) v
+
+  abbrev l2 : List ℕ
+  l2 = set l1 (j * 4 + 1) u
+
+  abbrev l3 : List ℕ
+  l3 = set l2 (j * 4 + 2) p
+
+  away : (t : ℕ) → (t ≡ j * 4 → ⊥) → (t ≡ j * 4 + 1 → ⊥) → (t ≡ j * 4 + 2 → ⊥) → (t ≡ j * 4 + 3 → ⊥) → getD (withLink l j v u p m) t 0 ≡ getD l t 0
+  away t a b c d =
+      getD-set-other l3 (j * 4 + 3) t m 0 d
+      ∙ getD-set-other l2 (j * 4 + 2) t p 0 c
+      ∙ getD-set-other l1 (j * 4 + 1) t u 0 b
+      ∙ getD-set-other l (j * 4) t v 0 a
+
+  pub link-other : (i : ℕ) → (i ≡ j → ⊥) → linkAt (withLink l j v u p m) i ≡ linkAt l i
+  link-other i d =
+      rw (
+        away (i * 4) (λ e. d (omega arith)) (λ e. omega arith) (λ e. omega arith) (λ e. omega arith),
+        away (i * 4 + 1) (λ e. omega arith) (λ e. d (omega arith)) (λ e. omega arith) (λ e. omega arith),
+        away (i * 4 + 2) (λ e. omega arith) (λ e. omega arith) (λ e. d (omega arith)) (λ e. omega arith),
+        away (i * 4 + 3) (λ e. omega arith) (λ e. omega arith) (λ e. omega arith) (λ e. d (omega arith)),
+      )
+      refl
+
+  pub link-there : SizedLinks l → j < stripesAlong → linkAt (withLink l j v u p m) j ≡ apart u v p m
+  link-there n h =
+      let e1 : length l1 ≡ stripesAlong * 4 = length-set l (j * 4) v ∙ n .long in
+      let e2 : length l2 ≡ stripesAlong * 4 = length-set l1 (j * 4 + 1) u ∙ e1 in
+      let e3 : length l3 ≡ stripesAlong * 4 = length-set l2 (j * 4 + 2) p ∙ e2 in
+      let gv : getD (withLink l j v u p m) (j * 4) 0 ≡ v =
+      getD-set-other l3 (j * 4 + 3) (j * 4) m 0 (λ e. omega arith) ∙ getD-set-other l2 (j * 4 + 2) (j * 4) p 0 (λ e. omega arith)
+      ∙ getD-set-other l1 (j * 4 + 1) (j * 4) u 0 (λ e. omega arith) ∙ getD-set-same l (j * 4) v 0 (omega (arith, n .long)) in
+      let gu : getD (withLink l j v u p m) (j * 4 + 1) 0 ≡ u =
+      getD-set-other l3 (j * 4 + 3) (j * 4 + 1) m 0 (λ e. omega arith) ∙ getD-set-other l2 (j * 4 + 2) (j * 4 + 1) p 0 (λ e. omega arith)
+      ∙ getD-set-same l1 (j * 4 + 1) u 0 (omega (arith, e1)) in
+      let gp : getD (withLink l j v u p m) (j * 4 + 2) 0 ≡ p =
+      getD-set-other l3 (j * 4 + 3) (j * 4 + 2) m 0 (λ e. omega arith) ∙ getD-set-same l2 (j * 4 + 2) p 0 (omega (arith, e2)) in
+      let gm : getD (withLink l j v u p m) (j * 4 + 3) 0 ≡ m = getD-set-same l3 (j * 4 + 3) m 0 (omega (arith, e3)) in
+      rw (gv, gu, gp, gm) refl
+
+  pub link-sized : v ≤ greatestPart → u ≤ greatestPart → p ≤ greatestPart → m ≤ greatestPart → SizedLinks l → SizedLinks (withLink l j v u p m)
+  link-sized a b c d n =
+      let w = stripesAlong * 4 in
+      set-numbers w greatestPart l3 (j * 4 + 3) m d
+      (set-numbers w greatestPart l2 (j * 4 + 2) p c
+      (set-numbers w greatestPart l1 (j * 4 + 1) u b
+      (set-numbers w greatestPart l (j * 4) v a n)))
+
+module _ (l : List ℕ) (j : ℕ) (s : Stripe) where
+  abbrev r1 : List ℕ
+  r1 = set l (j * 6) (s .x)
+
+  abbrev r2 : List ℕ
+  r2 = set r1 (j * 6 + 1) (s .a)
+
+  abbrev r3 : List ℕ
+  r3 = set r2 (j * 6 + 2) (s .y)
+
+  abbrev r4 : List ℕ
+  r4 = set r3 (j * 6 + 3) (s .z)
+
+  abbrev r5 : List ℕ
+  r5 = set r4 (j * 6 + 4) (s .plus)
+
+  away6 : (t : ℕ) → (t ≡ j * 6 → ⊥) → (t ≡ j * 6 + 1 → ⊥) → (t ≡ j * 6 + 2 → ⊥) → (t ≡ j * 6 + 3 → ⊥) → (t ≡ j * 6 + 4 → ⊥) → (t ≡ j * 6 + 5 → ⊥) → getD (withRow l j s) t 0 ≡ getD l t 0
+  away6 t a b c d e f =
+      getD-set-other r5 (j * 6 + 5) t (s .minus) 0 f
+      ∙ getD-set-other r4 (j * 6 + 4) t (s .plus) 0 e
+      ∙ getD-set-other r3 (j * 6 + 3) t (s .z) 0 d
+      ∙ getD-set-other r2 (j * 6 + 2) t (s .y) 0 c
+      ∙ getD-set-other r1 (j * 6 + 1) t (s .a) 0 b
+      ∙ getD-set-other l (j * 6) t (s .x) 0 a
+
+  pub stripe-other : (i : ℕ) → (i ≡ j → ⊥) → stripeAt (withRow l j s) i ≡ stripeAt l i
+  stripe-other i n =
+      rw (
+        away6 (i * 6) (λ e. n (omega arith)) (λ e. omega arith) (λ e. omega arith) (λ e. omega arith) (λ e. omega arith) (λ e. omega arith),
+        away6 (i * 6 + 1) (λ e. omega arith) (λ e. n (omega arith)) (λ e. omega arith) (λ e. omega arith) (λ e. omega arith) (λ e. omega arith),
+        away6 (i * 6 + 2) (λ e. omega arith) (λ e. omega arith) (λ e. n (omega arith)) (λ e. omega arith) (λ e. omega arith) (λ e. omega arith),
+        away6 (i * 6 + 3) (λ e. omega arith) (λ e. omega arith) (λ e. omega arith) (λ e. n (omega arith)) (λ e. omega arith) (λ e. omega arith),
+        away6 (i * 6 + 4) (λ e. omega arith) (λ e. omega arith) (λ e. omega arith) (λ e. omega arith) (λ e. n (omega arith)) (λ e. omega arith),
+        away6 (i * 6 + 5) (λ e. omega arith) (λ e. omega arith) (λ e. omega arith) (λ e. omega arith) (λ e. omega arith) (λ e. n (omega arith)),
+      )
+      refl
+
+  module _ (n : SizedRows l) where
+    e1 : length r1 ≡ stripesAlong * 6
+    e1 = length-set l (j * 6) (s .x) ∙ n .long
+
+    e2 : length r2 ≡ stripesAlong * 6
+    e2 = length-set r1 (j * 6 + 1) (s .a) ∙ e1
+
+    e3 : length r3 ≡ stripesAlong * 6
+    e3 = length-set r2 (j * 6 + 2) (s .y) ∙ e2
+
+    e4 : length r4 ≡ stripesAlong * 6
+    e4 = length-set r3 (j * 6 + 3) (s .z) ∙ e3
+
+    e5 : length r5 ≡ stripesAlong * 6
+    e5 = length-set r4 (j * 6 + 4) (s .plus) ∙ e4
+
+    pub row-sized : s .x ≤ 255 → s .a ≤ 255 → s .y ≤ 255 → s .z ≤ 255 → Small s → SizedRows (withRow l j s)
+    row-sized x a y z small =
+        let w = stripesAlong * 6 in
+        set-numbers w greatestPart r5 (j * 6 + 5) (s .minus) (small .minus)
+        (set-numbers w greatestPart r4 (j * 6 + 4) (s .plus) (small .plus)
+        (set-numbers w greatestPart r3 (j * 6 + 3) (s .z) (omega arith)
+        (set-numbers w greatestPart r2 (j * 6 + 2) (s .y) (omega arith)
+        (set-numbers w greatestPart r1 (j * 6 + 1) (s .a) (omega arith)
+        (set-numbers w greatestPart l (j * 6) (s .x) (omega arith) n)))))
+
+    pub stripe-there : j < stripesAlong → stripeAt (withRow l j s) j ≡ s
+    stripe-there h =
+        let gx : getD (withRow l j s) (j * 6) 0 ≡ s .x =
+        getD-set-other r5 (j * 6 + 5) (j * 6) (s .minus) 0 (λ e. omega arith) ∙ getD-set-other r4 (j * 6 + 4) (j * 6) (s .plus) 0 (λ e. omega arith) ∙ getD-set-other r3 (j * 6 + 3) (j * 6) (s .z) 0 (λ e. omega arith)
+        ∙ getD-set-other r2 (j * 6 + 2) (j * 6) (s .y) 0 (λ e. omega arith) ∙ getD-set-other r1 (j * 6 + 1) (j * 6) (s .a) 0 (λ e. omega arith) ∙ getD-set-same l (j * 6) (s .x) 0 (omega (arith, n .long)) in
+        let ga : getD (withRow l j s) (j * 6 + 1) 0 ≡ s .a =
+        getD-set-other r5 (j * 6 + 5) (j * 6 + 1) (s .minus) 0 (λ e. omega arith) ∙ getD-set-other r4 (j * 6 + 4) (j * 6 + 1) (s .plus) 0 (λ e. omega arith) ∙ getD-set-other r3 (j * 6 + 3) (j * 6 + 1) (s .z) 0 (λ e. omega arith)
+        ∙ getD-set-other r2 (j * 6 + 2) (j * 6 + 1) (s .y) 0 (λ e. omega arith) ∙ getD-set-same r1 (j * 6 + 1) (s .a) 0 (omega (arith, e1)) in
+        let gy : getD (withRow l j s) (j * 6 + 2) 0 ≡ s .y =
+        getD-set-other r5 (j * 6 + 5) (j * 6 + 2) (s .minus) 0 (λ e. omega arith) ∙ getD-set-other r4 (j * 6 + 4) (j * 6 + 2) (s .plus) 0 (λ e. omega arith) ∙ getD-set-other r3 (j * 6 + 3) (j * 6 + 2) (s .z) 0 (λ e. omega arith)
+        ∙ getD-set-same r2 (j * 6 + 2) (s .y) 0 (omega (arith, e2)) in
+        let gz : getD (withRow l j s) (j * 6 + 3) 0 ≡ s .z =
+        getD-set-other r5 (j * 6 + 5) (j * 6 + 3) (s .minus) 0 (λ e. omega arith) ∙ getD-set-other r4 (j * 6 + 4) (j * 6 + 3) (s .plus) 0 (λ e. omega arith) ∙ getD-set-same r3 (j * 6 + 3) (s .z) 0 (omega (arith, e3)) in
+        let gp : getD (withRow l j s) (j * 6 + 4) 0 ≡ s .plus =
+        getD-set-other r5 (j * 6 + 5) (j * 6 + 4) (s .minus) 0 (λ e. omega arith) ∙ getD-set-same r4 (j * 6 + 4) (s .plus) 0 (omega (arith, e4)) in
+        let gm : getD (withRow l j s) (j * 6 + 5) 0 ≡ s .minus = getD-set-same r5 (j * 6 + 5) (s .minus) 0 (omega (arith, e5)) in
+        rw (gx, ga, gy, gz, gp, gm) refl

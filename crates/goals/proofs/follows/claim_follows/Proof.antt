@@ -1,0 +1,55 @@
+-- Each kind of claim by its own test. Assumes nothing.
+use mathlib.Core.Path.{_∙_}
+use Rattle.goals.proofs.Agrees.{leas-agrees, most-agrees, stripe-agrees, small-goal}
+use borrow.Author.Needs.{needs}
+use Rattle.goals.proofs.follows.claim_follows.Statement.{statement}
+use Rattle.goals.proofs.follows.claim_follows.Tie as tie
+
+enum-known-c : tie.Need-enum-known-c
+enum-known-c c = search needs
+
+end-of-requires : tie.Need-end-of-requires
+end-of-requires c κs = search needs
+
+enum-known-c-2 : tie.Need-enum-known-c-2
+enum-known-c-2 c = search needs
+
+end-of-requires-2 : tie.Need-end-of-requires-2
+end-of-requires-2 c κs = search needs
+
+enum-known-c-3 : tie.Need-enum-known-c-3
+enum-known-c-3 c = search needs
+
+goal-follows-requires : tie.Need-goal-follows-requires
+goal-follows-requires c κs =
+    let start = c .before .before .before in
+    (start .pre .0, small-goal (start .args .c) (c .before .c3 .given .0 .0) (c .before .c3 .given .1) (start .pre .1))
+
+returns : tie.Need-returns
+returns c f laid =
+    let told = c .before .before .c .given in
+    leas-agrees f (c .before .before .before .before .args .c) (told .0 .0) (told .0 .1 .0) (c .end-of .result) (told .1) (c .end-of .ensures .0 ∙ laid .lows (told .0 .0))
+
+returns-2 : tie.Need-returns-2
+returns-2 c f laid =
+    let told = c .before .before .c2 .given in
+    most-agrees f (c .before .before .before .before .args .c) (told .0 .0) (told .0 .1 .0) (c .end-of2 .result) (told .1) (c .end-of2 .ensures .0 ∙ laid .highs (told .0 .0))
+
+returns-3 : tie.Need-returns-3
+returns-3 c f laid =
+    let told = c .before .before .c3 .given in
+    c .goal-follows .ensures f laid ∙ stripe-agrees f (c .before .before .before .before .args .c) (told .0 .0) (told .1)
+
+pub claim-follows-spec : {M : Type 1} → statement M
+claim-follows-spec =
+    tie.close
+    (tie.spec
+    enum-known-c
+    end-of-requires
+    enum-known-c-2
+    end-of-requires-2
+    enum-known-c-3
+    goal-follows-requires
+    returns
+    returns-2
+    returns-3)

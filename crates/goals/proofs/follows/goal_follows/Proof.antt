@@ -1,0 +1,56 @@
+-- The goal is taken apart into numbers, which changes nothing. Assumes nothing.
+use native.Mathlib.Omega.{arith}
+use mathlib.Core.Path.{sym, ap, _∙_}
+use Rattle.model.specs.Limits.{greatestLinks}
+use Rattle.model.specs.Facts.{lo}
+use Rattle.goals.proofs.Agrees.{follows-agrees, together}
+use borrow.Author.Needs.{needs}
+use Rattle.goals.proofs.follows.goal_follows.Statement.{statement}
+use Rattle.goals.proofs.follows.goal_follows.Tie as tie
+
+cast-end-of : tie.Need-cast-end-of
+cast-end-of c = search needs
+
+end-of-requires : tie.Need-end-of-requires
+end-of-requires c κs = search needs
+
+wide-requires : tie.Need-wide-requires
+wide-requires c κs = search needs
+
+wide-requires-2 : tie.Need-wide-requires-2
+wide-requires-2 c κs = search needs
+
+wide-requires-3 : tie.Need-wide-requires-3
+wide-requires-3 c κs = search needs
+
+follows-requires : tie.Need-follows-requires
+follows-requires c κs =
+    let sized = c .before .before .before .before .before .pre .0 in (
+      record { highs = sized .highs; bottom = c .before .before .before .end-of .ensures .1; stripes = sized .stripes; count = sized .count },
+      (record { linked = sized .linked; all = sized .all }, omega arith),
+    )
+
+returns : tie.Need-returns
+returns c f laid =
+    let a = c .before .before .before .before .before .before .args in
+    let low = c .before .before .before .before .end-of in
+    let x = c .before .before .before .wide in
+    let y = c .before .before .wide2 in
+    let z = c .before .wide3 in
+    c .follows .ensures
+    ∙ follows-agrees f (a .high .now) (low .result) (x .result) (a .g .a) (a .rows .now) (a .count) (a .links .now) (a .all)
+    (laid .highs) (low .ensures .0 ∙ laid .lows (a .g .x) ∙ ap (lo (f .ranges)) (sym (x .ensures .0))) (laid .stripes) (laid .linked)
+    greatestLinks (y .result) (z .result) (a .g .plus) (a .g .minus)
+    ∙ together f greatestLinks (a .g) (x .result) (y .result) (z .result) (x .ensures .0) (y .ensures .0) (z .ensures .0)
+
+pub goal-follows-spec : {M : Type 1} → statement M
+goal-follows-spec =
+    tie.close
+    (tie.spec
+    cast-end-of
+    end-of-requires
+    wide-requires
+    wide-requires-2
+    wide-requires-3
+    follows-requires
+    returns)

@@ -1,0 +1,68 @@
+-- The three ways in which a link is added. Assumes nothing.
+use mathlib.Core.Path.{sym, subst, _∙_}
+use mathlib.Core.List.{List}
+use Prim.Native.Nat.{ℕ, _+_, _≤_}
+use Rattle.model.specs.Transfer.{apart}
+use Rattle.goals.specs.Links.{SizedLinks}
+use Rattle.goals.proofs.Written.{link-sized}
+use Rattle.goals.proofs.Added.{Added, better-stands, worse-replaced, at-the-end}
+use native.Mathlib.Omega.{arith}
+use borrow.Author.Needs.{needs}
+use Rattle.goals.proofs.links.add_link.Statement.{statement}
+use Rattle.goals.proofs.links.add_link.Tie as tie
+
+place-requires : tie.Need-place-requires
+place-requires c κs = search needs
+
+enough-requires : tie.Need-enough-requires
+enough-requires c κs = search needs
+
+returns : tie.Need-returns
+returns c =
+    let start = c .before .before .before .before .before .before in
+    let a = start .args in
+    let found = c .before .before .before .before .place in
+    let same = found .ensures .1 (c .before .before .before .if1 .taken) in
+    ((omega arith, start .pre .0), better-stands (a .rows .now) (start .pre .0) (a .v) (a .u) (a .plus) (a .minus) (found .result) (a .k) (c .before .before .before .if1 .taken) (same .0) (same .1) (sym (c .before .enough .ensures) ∙ c .if2 .taken))
+
+write-link-requires : tie.Need-write-link-requires
+write-link-requires c κs = search needs
+
+returns-2 : tie.Need-returns-2
+returns-2 c =
+    let start = c .before .before .before .before .before .before .before .before in
+    let a = start .args in
+    let found = c .before .before .before .before .before .before .place in
+    let same = found .ensures .1 (c .before .before .before .before .before .if1 .taken) in
+    subst (λ (l : List ℕ). ((a .k ≤ a .k + 1) × SizedLinks l) × Added l (a .k) (a .rows .now) (a .k) (apart (a .u) (a .v) (a .plus) (a .minus))) (sym (c .write-link .ensures)) (
+      (omega arith, link-sized (a .rows .now) (found .result) (a .v) (a .u) (a .plus) (a .minus) (omega arith) (omega arith) (omega arith) (omega arith) (start .pre .0)),
+      worse-replaced (a .rows .now) (start .pre .0) (a .v) (a .u) (a .plus) (a .minus) (found .result) (a .k) (c .before .before .before .before .before .if1 .taken) (same .0) (same .1) (omega arith) (sym (c .before .before .before .enough .ensures) ∙ c .before .before .if2 .left),
+    )
+
+write-link-requires-2 : tie.Need-write-link-requires-2
+write-link-requires-2 c κs = search needs
+
+add-result : tie.Need-add-result
+add-result c = search needs
+
+returns-3 : tie.Need-returns-3
+returns-3 c =
+    let start = c .before .before .before .before .before in
+    let a = start .args in
+    subst (λ (l : List ℕ). ((a .k + 1 ≤ a .k + 1) × SizedLinks l) × Added l (a .k + 1) (a .rows .now) (a .k) (apart (a .u) (a .v) (a .plus) (a .minus))) (sym (c .write-link2 .ensures)) (
+      (omega arith, link-sized (a .rows .now) (a .k) (a .v) (a .u) (a .plus) (a .minus) (omega arith) (omega arith) (omega arith) (omega arith) (start .pre .0)),
+      at-the-end (a .rows .now) (start .pre .0) (a .v) (a .u) (a .plus) (a .minus) (a .k) (omega arith),
+    )
+
+pub add-link-spec : {M : Type 1} → statement M
+add-link-spec =
+    tie.close
+    (tie.spec
+    place-requires
+    enough-requires
+    returns
+    write-link-requires
+    returns-2
+    write-link-requires-2
+    add-result
+    returns-3)

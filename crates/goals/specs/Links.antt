@@ -1,0 +1,39 @@
+-- The links along an edge as rows of four numbers in one list: v, u, plus, minus of u - 1 * v ≥ plus - minus.
+-- Of two links between the same variables only the better one is held: a goal that follows by the other follows by it.
+use Prim.Native.Nat.{ℕ, _+_, _*_, _≤_}
+use mathlib.Core.Path.{_≡_}
+use mathlib.Core.Bool.{Bool, true, _&&_}
+use mathlib.Core.List.{List}
+use lib.ListN.{getD, set}
+use Rattle.model.specs.declared.claims.Stripe.{Stripe}
+use Rattle.model.specs.Lists.{some}
+use Rattle.model.specs.Transfer.{apart}
+use Rattle.model.specs.Follows.{isLink}
+use Rattle.goals.specs.Sizes.{greatestPart, stripesAlong, Numbers}
+use Rattle.goals.specs.Search.{someBelow}
+
+-- a list of links
+abbrev pub SizedLinks : List ℕ → Type 0
+SizedLinks l = Numbers (stripesAlong * 4) greatestPart l
+
+-- the i-th link
+abbrev pub linkAt : List ℕ → ℕ → Stripe
+linkAt l i = apart (getD l (i * 4 + 1) 0) (getD l (i * 4) 0) (getD l (i * 4 + 2) 0) (getD l (i * 4 + 3) 0)
+
+-- the list with the i-th link replaced
+abbrev pub withLink : List ℕ → ℕ → ℕ → ℕ → ℕ → ℕ → List ℕ
+withLink l i v u plus minus = set (set (set (set l (i * 4) v) (i * 4 + 1) u) (i * 4 + 2) plus) (i * 4 + 3) minus
+
+-- t says of the same variables at least what s says
+pub record Better (t s : Stripe) : Type 0 where
+  pub u : t .x ≡ s .x
+  pub v : t .y ≡ s .y
+  pub bound : s .plus + t .minus ≤ t .plus + s .minus
+
+-- a test of links that a better link passes too
+abbrev pub Lasting : (Stripe → Bool) → Type 0
+Lasting p = (s t : Stripe) → Better t s → p s ≡ true → p t ≡ true
+
+-- the first k rows hold the links among the stripes: no lasting test tells them apart
+abbrev pub HasLinks : List ℕ → ℕ → List Stripe → Type 0
+HasLinks l k ss = (p : Stripe → Bool) → Lasting p → someBelow (λ (i : ℕ). p (linkAt l i)) k ≡ some (λ (s : Stripe). isLink s && p s) ss

@@ -1,0 +1,277 @@
+// Whether a goal, or a claim, follows from the facts that the arrays hold.
+use crate::ends::end_of;
+use crate::links::touches;
+use crate::rows::stands;
+use crate::rows::wide;
+use model::claims::Claim;
+use model::claims::Stripe;
+ghost use mathlib.Core.Path.{_≡_};
+ghost use Prim.Native.Nat.{_+_, _*_, _≤_, _<_};
+ghost use Rattle.model.specs.Limits.{MAX, greatestLinks};
+ghost use Rattle.model.specs.Facts.{Facts};
+ghost use Rattle.model.specs.Transfer.{stripe};
+ghost use Rattle.model.specs.Follows;
+ghost use Rattle.model.specs.Follows.{claimFollows};
+ghost use Rattle.model.proofs.Limits.{ClaimLimited};
+ghost use Rattle.goals.specs.Sizes.{greatestPart, greatestStep, Small, Room};
+ghost use Rattle.goals.specs.Ends.{SizedEnds};
+ghost use Rattle.goals.specs.Links.{linkAt};
+ghost use Rattle.goals.specs.Laid.{Laid, Sized};
+ghost use Rattle.goals.specs.Goal.{Near, Linked, atOnce, byLink, bySomeLink};
+ghost use Rattle.goals.specs.Goal;
+
+// a * n, for a number n that is small enough.
+fn scaled(a: u8, n: u64) -> u64
+    requires { ⌜ n ≤ greatestPart ⌝ }
+    ensures { λ r. ⌜ (r ≡ a * n) × (r ≤ greatestStep) ⌝ }
+{
+    a as u64 * n
+}
+
+// Whether the ends alone show the goal; low is the low end of its x.
+fn by_ends(high: &[u64; 18], low: u64, x: u64, a: u8, y: u64, z: u64, plus: u64, minus: u64) -> bool
+    requires { ⌜ SizedEnds (now high) × (low ≤ MAX) ⌝ }
+    requires { ⌜ Room 0 (stripe x a y z plus minus) ⌝ }
+    ensures { λ r. ⌜ r ≡ Goal.byEnds (now (high .entry)) low (stripe x a y z plus minus) ⌝ }
+{
+    let top = end_of(high, y as usize) + end_of(high, z as usize);
+    scaled(a, top) + plus <= low + minus
+}
+
+// Whether the goal follows with no link.
+fn at_once<'a>(
+    high: &'a [u64; 18],
+    low: u64,
+    rows: &'a [u64; 60],
+    count: usize,
+    x: u64,
+    a: u8,
+    y: u64,
+    z: u64,
+    plus: u64,
+    minus: u64,
+) -> bool
+    requires { ⌜ Near (now high) low (now rows) count ⌝ }
+    requires { ⌜ Room 0 (stripe x a y z plus minus) ⌝ }
+    ensures { λ r. ⌜ r ≡ atOnce (now (high .entry)) low (now (rows .entry)) count (stripe x a y z plus minus) ⌝ }
+{
+    if by_ends(high, low, x, a, y, z, plus, minus) {
+        return true;
+    }
+    stands(rows, count, x, a, y, z, plus, minus)
+}
+
+// Whether the goal follows within `left` links; their number falls at each use of one.
+fn follows<'a>(
+    high: &'a [u64; 18],
+    low: u64,
+    rows: &'a [u64; 60],
+    count: usize,
+    links: &'a [u64; 40],
+    all: usize,
+    x: u64,
+    a: u8,
+    y: u64,
+    z: u64,
+    plus: u64,
+    minus: u64,
+    left: usize,
+) -> bool
+    requires { ⌜ Near (now high) low (now rows) count ⌝ }
+    requires { ⌜ Linked (now links) all ⌝ }
+    requires { ⌜ Room left (stripe x a y z plus minus) ⌝ }
+    ensures { λ r. ⌜ r ≡ Goal.follows (atOnce (now (high .entry)) low (now (rows .entry)) count) (now (links .entry)) all left (stripe x a y z plus minus) ⌝ }
+{
+    if at_once(high, low, rows, count, x, a, y, z, plus, minus) {
+        return true;
+    }
+    if left == 0 {
+        return false;
+    }
+    linked(
+        high,
+        low,
+        rows,
+        count,
+        links,
+        all,
+        x,
+        a,
+        y,
+        z,
+        plus,
+        minus,
+        left - 1,
+    )
+}
+
+// Whether the goal follows by a link and at most `left` more.
+fn linked<'a>(
+    high: &'a [u64; 18],
+    low: u64,
+    rows: &'a [u64; 60],
+    count: usize,
+    links: &'a [u64; 40],
+    all: usize,
+    x: u64,
+    a: u8,
+    y: u64,
+    z: u64,
+    plus: u64,
+    minus: u64,
+    left: usize,
+) -> bool
+    requires { ⌜ Near (now high) low (now rows) count ⌝ }
+    requires { ⌜ Linked (now links) all ⌝ }
+    requires { ⌜ Room (left + 1) (stripe x a y z plus minus) ⌝ }
+    ensures { λ r. ⌜ r ≡ bySomeLink (Goal.follows (atOnce (now (high .entry)) low (now (rows .entry)) count) (now (links .entry)) all left) (now (links .entry)) all (stripe x a y z plus minus) ⌝ }
+{
+    let mut i = 0;
+    while i < all {
+        if touches(links, i, y, z) {
+            if through(
+                high,
+                low,
+                rows,
+                count,
+                links,
+                all,
+                x,
+                a,
+                y,
+                z,
+                plus,
+                minus,
+                left,
+                i,
+            ) {
+                return true;
+            }
+        }
+        i += 1;
+    }
+    false
+}
+
+// Whether the goal follows by the i-th link, in the place of y or of z, and at most `left` more.
+fn through<'a>(
+    high: &'a [u64; 18],
+    low: u64,
+    rows: &'a [u64; 60],
+    count: usize,
+    links: &'a [u64; 40],
+    all: usize,
+    x: u64,
+    a: u8,
+    y: u64,
+    z: u64,
+    plus: u64,
+    minus: u64,
+    left: usize,
+    i: usize,
+) -> bool
+    requires { ⌜ Near (now high) low (now rows) count ⌝ }
+    requires { ⌜ Linked (now links) all ⌝ }
+    requires { ⌜ Room (left + 1) (stripe x a y z plus minus) ⌝ }
+    requires { ⌜ i < all ⌝ }
+    ensures { λ r. ⌜ r ≡ byLink (Goal.follows (atOnce (now (high .entry)) low (now (rows .entry)) count) (now (links .entry)) all left) (stripe x a y z plus minus) (linkAt (now (links .entry)) i) ⌝ }
+{
+    let at = i * 4;
+    let v = links[at];
+    let u = links[at + 1];
+    let more = plus + scaled(a, links[at + 3]);
+    let less = minus + scaled(a, links[at + 2]);
+    if v == y {
+        if follows(
+            high,
+            low,
+            rows,
+            count,
+            links,
+            all,
+            x,
+            a,
+            u,
+            z,
+            more,
+            less,
+            left,
+        ) {
+            return true;
+        }
+    }
+    if v == z {
+        return follows(
+            high,
+            low,
+            rows,
+            count,
+            links,
+            all,
+            x,
+            a,
+            y,
+            u,
+            more,
+            less,
+            left,
+        );
+    }
+    false
+}
+
+// Whether the goal follows within three links.
+pub fn goal_follows<'a>(
+    high: &'a [u64; 18],
+    low: &'a [u64; 18],
+    rows: &'a [u64; 60],
+    count: usize,
+    links: &'a [u64; 40],
+    all: usize,
+    g: Stripe,
+) -> bool
+    requires { ⌜ Sized (now high) (now low) (now rows) count (now links) all ⌝ }
+    requires { ⌜ Small g ⌝ }
+    ensures { λ r. ⌜ ((f : Facts) → Laid (now (high .entry)) (now (low .entry)) (now (rows .entry)) count (now (links .entry)) all f → r ≡ Follows.follows f greatestLinks g) ⌝ }
+{
+    let bottom = end_of(low, g.x as usize);
+    let x = wide(g.x);
+    let y = wide(g.y);
+    let z = wide(g.z);
+    follows(
+        high,
+        bottom,
+        rows,
+        count,
+        links,
+        all,
+        x,
+        g.a,
+        y,
+        z,
+        g.plus,
+        g.minus,
+        3,
+    )
+}
+
+// Whether a claim follows.
+pub fn claim_follows<'a>(
+    high: &'a [u64; 18],
+    low: &'a [u64; 18],
+    rows: &'a [u64; 60],
+    count: usize,
+    links: &'a [u64; 40],
+    all: usize,
+    c: Claim,
+) -> bool
+    requires { ⌜ Sized (now high) (now low) (now rows) count (now links) all ⌝ }
+    requires { ⌜ ClaimLimited c ⌝ }
+    ensures { λ r. ⌜ ((f : Facts) → Laid (now (high .entry)) (now (low .entry)) (now (rows .entry)) count (now (links .entry)) all f → r ≡ claimFollows f c) ⌝ }
+{
+    match c {
+        Claim::Leas { v, least } => least <= end_of(low, v),
+        Claim::Most { v, most } => end_of(high, v) <= most,
+        Claim::Strp(g) => goal_follows(high, low, rows, count, links, all, g),
+    }
+}

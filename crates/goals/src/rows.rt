@@ -1,0 +1,95 @@
+// The stripes along an edge as rows of six numbers.
+use model::claims::Stripe;
+ghost use mathlib.Core.Path.{_≡_};
+ghost use Prim.Native.Nat.{_≤_, _<_};
+ghost use lib.ListN.{take};
+ghost use Rattle.model.specs.Follows;
+ghost use Rattle.model.specs.Transfer.{stripe};
+ghost use Rattle.goals.specs.Sizes.{stripesAlong, Small, AllSmall, Room};
+ghost use Rattle.goals.specs.Rows.{SizedRows, stripeAt, withRow, HasRows};
+ghost use Rattle.goals.specs.Goal;
+
+// A byte as a number of 64 bits.
+pub fn wide(v: u8) -> u64
+    ensures { λ r. ⌜ (r ≡ v) × (r < 256) ⌝ }
+{
+    v as u64
+}
+
+// Writes the i-th row.
+fn write_row(rows: &mut [u64; 60], i: usize, s: Stripe)
+    requires { ⌜ SizedRows (now rows) ⌝ }
+    requires { ⌜ (i < stripesAlong) × Small s ⌝ }
+    ensures { λ r. ⌜ (now (rows .exit) ≡ withRow (now (rows .entry)) i s) × SizedRows (now (rows .exit)) ⌝ }
+{
+    let x = wide(s.x);
+    let a = wide(s.a);
+    let y = wide(s.y);
+    let z = wide(s.z);
+    let at = i * 6;
+    rows[at] = x;
+    rows[at + 1] = a;
+    rows[at + 2] = y;
+    rows[at + 3] = z;
+    rows[at + 4] = s.plus;
+    rows[at + 5] = s.minus;
+}
+
+// The first count stripes as rows.
+pub fn rows_of(stripes: [Stripe; 10], count: usize) -> [u64; 60]
+    requires { ⌜ AllSmall count stripes ⌝ }
+    requires { ⌜ count ≤ stripesAlong ⌝ }
+    ensures { λ r. ⌜ HasRows r count (take count stripes) × SizedRows r ⌝ }
+{
+    let mut rows: [u64; 60] = [0; 60];
+    let mut i = 0;
+    while i < count {
+        write_row(&mut rows, i, stripes[i]);
+        i += 1;
+    }
+    rows
+}
+
+// Whether the i-th row stands for the goal.
+fn covers(rows: &[u64; 60], i: usize, x: u64, a: u8, y: u64, z: u64, plus: u64, minus: u64) -> bool
+    requires { ⌜ SizedRows (now rows) ⌝ }
+    requires { ⌜ i < stripesAlong ⌝ }
+    requires { ⌜ Room 0 (stripe x a y z plus minus) ⌝ }
+    ensures { λ r. ⌜ r ≡ Follows.covers (stripeAt (now (rows .entry)) i) (stripe x a y z plus minus) ⌝ }
+{
+    let at = i * 6;
+    let s = rows[at];
+    if s != x {
+        return false;
+    }
+    let p = rows[at + 2];
+    let q = rows[at + 3];
+    let bound = plus + rows[at + 5] <= rows[at + 4] + minus;
+    (rows[at + 1] == a as u64) & ((p == y) & (q == z) | (p == z) & (q == y)) & bound
+}
+
+// Whether one of the first count rows stands for the goal.
+pub fn stands(
+    rows: &[u64; 60],
+    count: usize,
+    x: u64,
+    a: u8,
+    y: u64,
+    z: u64,
+    plus: u64,
+    minus: u64,
+) -> bool
+    requires { ⌜ SizedRows (now rows) ⌝ }
+    requires { ⌜ count ≤ stripesAlong ⌝ }
+    requires { ⌜ Room 0 (stripe x a y z plus minus) ⌝ }
+    ensures { λ r. ⌜ r ≡ Goal.stands (now (rows .entry)) count (stripe x a y z plus minus) ⌝ }
+{
+    let mut i = 0;
+    while i < count {
+        if covers(rows, i, x, a, y, z, plus, minus) {
+            return true;
+        }
+        i += 1;
+    }
+    false
+}
