@@ -1,0 +1,12 @@
+use borrow.Author.Needs.{needs}
+use Rattle.domain.proofs.ranges.at_most.Statement.{statement}
+use Rattle.domain.proofs.ranges.at_most.Tie as tie
+
+smaller-requires : tie.Need-smaller-requires
+smaller-requires c κs = search needs
+
+returns : tie.Need-returns
+returns c = cc
+
+pub at-most-spec : {M : Type 1} → statement M
+at-most-spec = tie.close (tie.spec smaller-requires returns)

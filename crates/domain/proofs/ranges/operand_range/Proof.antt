@@ -1,0 +1,49 @@
+use borrow.Author.Needs.{needs}
+use mathlib.Core.Path.{subst, sym}
+use native.Mathlib.Omega.{arith}
+use Rattle.domain.specs.Known.{Word}
+use Rattle.domain.proofs.ranges.operand_range.Statement.{statement}
+use Rattle.domain.proofs.ranges.operand_range.Tie as tie
+
+enum-known-o : tie.Need-enum-known-o
+enum-known-o c = search needs
+
+mul-result : tie.Need-mul-result
+mul-result c =
+    let h = rw (c .before .o .given .1) at (c .before .before .before .pre .1) in
+    omega arith
+
+array-copy-out-result : tie.Need-array-copy-out-result
+array-copy-out-result c =
+    let h = rw (c .before .o .given .1) at (c .before .before .before .pre .1) in
+    omega arith
+
+enum-known-o-2 : tie.Need-enum-known-o-2
+enum-known-o-2 c = search needs
+
+cast-exactly : tie.Need-cast-exactly
+cast-exactly c = search needs
+
+exactly-requires : tie.Need-exactly-requires
+exactly-requires c κs = search needs
+
+returns : tie.Need-returns
+returns c = (rw (c .before .before .o .given .1), c .before .before .before .before .pre .0 _)
+
+returns-2 : tie.Need-returns-2
+returns-2 c =
+    let h = rw (c .before .before .o2 .given .1) at (c .before .before .before .before .pre .1) in
+    (rw (c .before .before .o2 .given .1) (c .exactly .ensures), subst Word (sym (c .exactly .ensures)) (record { low = h; high = h }))
+
+pub operand-range-spec : {M : Type 1} → statement M
+operand-range-spec =
+    tie.close
+    (tie.spec
+    enum-known-o
+    mul-result
+    array-copy-out-result
+    enum-known-o-2
+    cast-exactly
+    exactly-requires
+    returns
+    returns-2)

@@ -1,0 +1,15 @@
+use borrow.Author.Needs.{needs}
+use Rattle.domain.proofs.ranges.overlap.Statement.{statement}
+use Rattle.domain.proofs.ranges.overlap.Tie as tie
+
+larger-requires : tie.Need-larger-requires
+larger-requires c κs = search needs
+
+smaller-requires : tie.Need-smaller-requires
+smaller-requires c κs = search needs
+
+returns : tie.Need-returns
+returns c = cc
+
+pub overlap-spec : {M : Type 1} → statement M
+overlap-spec = tie.close (tie.spec larger-requires smaller-requires returns)

@@ -1,0 +1,26 @@
+use borrow.Author.Needs.{needs}
+use Rattle.domain.proofs.stripes.matched_stripes.Statement.{statement}
+use Rattle.domain.proofs.stripes.matched_stripes.Tie as tie
+
+enum-told : tie.Need-enum-told
+enum-told c = search needs
+
+kept-requires : tie.Need-kept-requires
+kept-requires c κs = search needs
+
+enum-known-e : tie.Need-enum-known-e
+enum-known-e c = search needs
+
+equal-stripes-requires : tie.Need-equal-stripes-requires
+equal-stripes-requires c κs = search needs
+
+returns : tie.Need-returns
+returns c = rw (c .before .enum-told .given .1) (c .kept .ensures)
+
+returns-2 : tie.Need-returns-2
+returns-2 c = rw (c .before .before .e .given .1) (c .equal-stripes .ensures)
+
+pub matched-stripes-spec : {M : Type 1} → statement M
+matched-stripes-spec =
+    tie.close
+    (tie.spec enum-told kept-requires enum-known-e equal-stripes-requires returns returns-2)
