@@ -1,11 +1,11 @@
 -- Claims gathered from lines, one line at a time. Assumes nothing.
 use mathlib.Core.Path.{_≡_, refl, sym, ap, _∙_}
 use mathlib.Core.List.{List, [], _∷_, _++_}
-use Prim.Native.Nat.{ℕ, zero, suc, _+_, _≤_}
+use Prim.Native.Nat.{ℕ, zero, suc, _+_, _≤_, _<_}
 use native.Mathlib.Omega.{arith}
 use native.Mathlib.Decide.{ℕ-discrete}
 use Rattle.model.specs.declared.claims.Claim.{Claim}
-use Rattle.model.specs.Facts.{Facts, withClaim, withClaims, factsOf}
+use Rattle.model.specs.Facts.{Facts, unclaimed, withClaim, withClaims, factsOf}
 use Rattle.model.specs.Listing.{stripesAmong}
 use Rattle.reader.specs.Scan.{stripesIn, lineRead, claimOn, claimsIn}
 use Rattle.reader.proofs.Scanning.{stripes-cons}
@@ -38,3 +38,12 @@ with-append f (c ∷ xs) ys = with-append (withClaim f c) xs ys
 pub facts-append : (xs ys : List Claim) → factsOf (xs ++ ys) ≡ withClaims (factsOf xs) ys
 unfolding factsOf
 facts-append xs ys = with-append _ xs ys
+
+pub facts-none : factsOf [] ≡ unclaimed
+unfolding factsOf
+facts-none = refl
+
+-- among n lines that hold few stripes, the next line has room
+pub gather-room : (s : List ℕ) (from i n m : ℕ) → i < n → stripesAmong (claimsIn s from n) ≤ m → stripesAmong (claimsIn s from i) + stripesAmong (claimOn (lineRead s (from + i))) ≤ m
+gather-room s from i n m h few =
+    omega (arith, stripes-grow s from (suc i) n h, ap stripesAmong (claims-next s from i), stripes-append (claimsIn s from i) (claimOn (lineRead s (from + i))))
