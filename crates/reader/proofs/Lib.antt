@@ -2,3 +2,4 @@ pub mod Scanning
 pub mod Tables
 pub mod Wholes
 pub mod Gathering
+pub mod Listings

@@ -1,5 +1,6 @@
 // From a lent listing to its points: refusals 1 to 11, and the claim lines of a point.
 pub mod facts;
+pub mod listing;
 pub mod read;
 pub mod scan;
 pub mod whole;

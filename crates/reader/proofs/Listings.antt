@@ -1,0 +1,126 @@
+-- A listing read by the code is the model's. Assumes nothing.
+use mathlib.Core.Path.{_≡_, refl, sym, ap, ap₂, subst, _∙_}
+use mathlib.Core.Bool.{Bool, true, false, cond, false≢true, _&&_}
+use mathlib.Core.List.{List, [], _∷_}
+use Prim.Native.Nat.{ℕ, _+_, _-_, _*_, _/_, _%_, _≤_, _<_}
+use native.Mathlib.Omega.{arith}
+use lib.ListN.{length}
+use lib.Dec.{eqb, leb}
+use borrow.Author.Tests.{eqb-true, leb-true, leb-false, ltb-false}
+use Rattle.model.specs.declared.claims.Claim.{Claim}
+use Rattle.model.specs.declared.answers.Refusal.{Refusal}
+use Rattle.model.specs.declared.answers.Judgement.{Judgement}
+use Rattle.model.specs.declared.answers.Judgement.the-variants.{Accepted, Refused as refused}
+use Rattle.model.specs.declared.answers.Refusal.the-variants.{ListingLength, LastLineClaim, EmptyStart}
+use Rattle.model.specs.Limits.{lineBytes}
+use Rattle.model.specs.Answers.{_andThen_}
+use Rattle.model.specs.Facts.{factsOf}
+use Rattle.model.specs.Transfer.{possible}
+use Rattle.model.specs.Listing.{Point, firstLine, pointAt, fewPoints, startsNonEmpty, wholeJudged, Reading, going, turned, readTo, readAs, unreadable, listingOr, listingFrom, goodLength, listingOf}
+use Rattle.model.specs.Listing as model
+use Rattle.model.proofs.Tests.{and-left, and-right, cond-cases}
+use Rattle.reader.specs.declared.scan.Scan.{Scan}
+use Rattle.reader.specs.declared.scan.Point as code
+use Rattle.reader.specs.declared.scan.Progress.{Progress}
+use Rattle.reader.specs.declared.scan.Progress.the-variants.{Going, Turned}
+use Rattle.reader.specs.declared.listing.Listing.{Listing}
+use Rattle.reader.specs.Scan.{scanOf, progressOf, coded, tableTo, claimsIn}
+use Rattle.reader.specs.Whole.{tableAt, pointsJudged}
+use Rattle.reader.specs.Listing.{firstOf, PointLines, startJudged, judgedOf, Whole, ReadFrom, Stands}
+use Rattle.reader.proofs.Tables.{PointRead, LinesRead, ReadSo, read-so}
+use Rattle.reader.proofs.Wholes.{whole-same}
+
+-- a point that stands in the table has its claim lines in the listing
+pub point-lines : (s : List ℕ) (n : ℕ) (ps : List Point) (cs : List Claim) → LinesRead s n ps cs → (i : ℕ) → i < length ps → i ≤ 512 → PointLines s n (tableAt (tableTo s n) i)
+point-lines s n ps cs h i k l =
+    let q = h .each i k in
+    subst (PointLines s n) (sym (h .table i k l)) (record { before = q .before; inside = q .line; few = rw (q .gathered) (q .stripes) })
+
+-- 11 over the table
+start-same : (s : List ℕ) (n : ℕ) (ps : List Point) (cs : List Claim) → LinesRead s n ps cs → 1 ≤ length ps → startJudged s (tableAt (tableTo s n) 0) ≡ startsNonEmpty ps
+start-same s n ps cs h one = rw (h .table 0 one (omega arith), h .each 0 one .gathered)
+
+-- where 7 to 10 accept, no claim is left over
+none-left : (lines : ℕ) (pts : List code.Point) (q : Scan) → pointsJudged lines pts q ≡ Accepted → q .claims ≡ 0
+unfolding pointsJudged
+none-left lines pts q e = go (eqb (q .claims) 0) _ refl e
+  where
+    go : (b : Bool) (j : Judgement) → eqb (q .claims) 0 ≡ b → cond b j (refused (LastLineClaim lines)) ≡ Accepted → q .claims ≡ 0
+    go true j t k = eqb-true _ _ t
+    go false j t k = let z : _≡_ {A = ℕ} 0 1 = cc in absurd (omega arith)
+
+module _ (s : List ℕ) (lines : ℕ) (pts : List code.Point) (q : Scan) (w : Whole s lines pts q) where
+  -- the points and claims that were read
+  record Known : Type 0 where
+    ps : List Point
+    cs : List Claim
+    is : readTo s lines ≡ going ps cs
+    read : LinesRead s lines ps cs
+    kept : q ≡ scanOf ps cs
+
+  known : Known
+  known = go (readTo s lines) refl (read-so s lines) (w .read)
+    where
+      go : (r : Reading) → readTo s lines ≡ r → ReadSo s lines r → progressOf r ≡ Going q → Known
+      go (going ps cs) e h p = record { ps = ps; cs = cs; is = e; read = h; kept = cc }
+      go (turned r) e h p = let z : _≡_ {A = ℕ} 0 1 = cc in absurd (omega arith)
+
+  pub some-read : 1 ≤ q .points + q .claims
+  some-read = let k = known in rw (k .kept) (k .read .some (w .some))
+
+  whole-is : judgedOf lines (readTo s lines) ≡ (pointsJudged lines pts q andThen startsNonEmpty (known .ps))
+  whole-is = let k = known in ap (judgedOf lines) (k .is) ∙ sym (whole-same s lines (k .ps) (k .cs) (k .read) (w .some)) ∙ ap₂ (λ (t : List code.Point) (x : Scan). pointsJudged lines t x andThen startsNonEmpty (k .ps)) (sym (w .table)) (sym (k .kept))
+
+  pub whole-refused : (r : Refusal) → pointsJudged lines pts q ≡ refused r → judgedOf lines (readTo s lines) ≡ refused r
+  whole-refused r e = whole-is ∙ rw e
+
+  module _ (e : pointsJudged lines pts q ≡ Accepted) where
+    one-point : 1 ≤ length (known .ps)
+    one-point =
+        let k = known in
+        let none = none-left lines pts q e in
+        omega (arith, k .read .some (w .some), ap (λ (x : Scan). x .claims) (k .kept))
+
+    pub whole-accepted : judgedOf lines (readTo s lines) ≡ startJudged s (tableAt pts 0)
+    whole-accepted =
+        let k = known in
+        whole-is ∙ rw e (sym (ap (λ (t : List code.Point). startJudged s (tableAt t 0)) (w .table) ∙ start-same s lines (k .ps) (k .cs) (k .read) one-point))
+
+    pub start-lines : PointLines s lines (tableAt pts 0)
+    start-lines = let k = known in subst (λ (t : List code.Point). PointLines s lines (tableAt t 0)) (sym (w .table)) (point-lines s lines (k .ps) (k .cs) (k .read) 0 one-point (omega arith))
+
+-- the whole listing
+pub from-turned : (s : List ℕ) (lines : ℕ) (r : Refusal) (l : Listing) → progressOf (readTo s lines) ≡ Turned r → l .judgement ≡ refused r → ReadFrom s lines (listingFrom lines (readTo s lines)) l
+from-turned s lines r l e j = go (readTo s lines) e
+  where
+    go : (x : Reading) → progressOf x ≡ Turned r → ReadFrom s lines (listingFrom lines x) l
+    go (turned x) p = let same : r ≡ x = cc in j ∙ ap refused same
+    go (going ps cs) p = let z : _≡_ {A = ℕ} 0 1 = cc in absurd (omega arith)
+
+pub from-going : (s : List ℕ) (lines : ℕ) (q : Scan) (l : Listing) → progressOf (readTo s lines) ≡ Going q → l .judgement ≡ judgedOf lines (readTo s lines) → l .count ≡ q .points → l .points ≡ tableTo s lines → ReadFrom s lines (listingFrom lines (readTo s lines)) l
+from-going s lines q l e j n t = go (readTo s lines) e j
+  where
+    whole : (ps : List Point) (x : Judgement) → l .judgement ≡ x → l .count ≡ length ps → ReadFrom s lines (listingOr x ps) l
+    whole ps Accepted a b = (a, b, t)
+    whole ps (refused r) a b = a
+
+    go : (x : Reading) → progressOf x ≡ Going q → l .judgement ≡ judgedOf lines x → ReadFrom s lines (listingFrom lines x) l
+    go (turned x) p k = let z : _≡_ {A = ℕ} 0 1 = cc in absurd (omega arith)
+    go (going ps cs) p k = let same : scanOf ps cs ≡ q = cc in whole ps (wholeJudged lines ps cs) k (n ∙ ap (λ (x : Scan). x .points) (sym same))
+
+pub listing-good : (s : List ℕ) → goodLength (length s) ≡ true → listingOf s ≡ listingFrom (length s / lineBytes) (readTo s (length s / lineBytes))
+unfolding listingOf
+listing-good s e = rw e
+
+pub listing-bad : (s : List ℕ) → goodLength (length s) ≡ false → listingOf s ≡ unreadable ListingLength
+unfolding listingOf
+listing-bad s e = rw e
+
+-- a good length has at least one line and at most 1,638, and no byte left over
+pub good-lines : (n : ℕ) → goodLength n ≡ true → (1 ≤ n / 40) × (n / 40 ≤ 1638) × (n / 40 * 40 ≤ n)
+unfolding goodLength
+good-lines n e =
+    let a = leb-true 1 n (and-left (leb 1 n) (leb n 65520) (and-left (leb 1 n && leb n 65520) _ e)) in
+    let b = leb-true n 65520 (and-right (leb 1 n) (leb n 65520) (and-left (leb 1 n && leb n 65520) _ e)) in
+    let c = eqb-true (n % 40) 0 (and-right (leb 1 n && leb n 65520) _ e) in
+    omega arith
