@@ -1,1 +1,3 @@
 pub mod Lost
+pub mod Edges
+pub mod Points

@@ -36,7 +36,7 @@ each-accepted ps (suc n) e p h = go (ℕ-discrete p n) (each-accepted ps n (both
     go (yes q) f = rw q (both-accepted (pointsJudged ps n) _ e .1)
     go (no q) f = f p (omega arith)
 
-targets-at : (n : ℕ) (qs : List Point) (d : Point) (p : ℕ) → p < length qs → allTargetsExist n qs ≡ Accepted → targetsExist n (getD qs p d .line) (targets (getD qs p d .instruction)) ≡ Accepted
+pub targets-at : (n : ℕ) (qs : List Point) (d : Point) (p : ℕ) → p < length qs → allTargetsExist n qs ≡ Accepted → targetsExist n (getD qs p d .line) (targets (getD qs p d .instruction)) ≡ Accepted
 targets-at n [] d p h e = absurd (not-suc-le-zero h)
 targets-at n (q ∷ qs) d zero h e = both-accepted (targetsExist n (q .line) (targets (q .instruction))) _ e .0
 targets-at n (q ∷ qs) d (suc p) h e = targets-at n qs d p (le-of-suc-le-suc h) (both-accepted (targetsExist n (q .line) (targets (q .instruction))) _ e .1)

@@ -16,9 +16,10 @@ use Rattle.model.specs.Limits.{lineBytes}
 use Rattle.model.specs.Answers.{_andThen_}
 use Rattle.model.specs.Facts.{factsOf}
 use Rattle.model.specs.Transfer.{possible}
-use Rattle.model.specs.Listing.{Point, firstLine, pointAt, fewPoints, startsNonEmpty, wholeJudged, Reading, going, turned, readTo, readAs, unreadable, listingOr, listingFrom, goodLength, listingOf}
+use Rattle.model.specs.Listing.{Point, pointAt, endsWithInstruction, fewPoints, allTargetsExist, endsInPlace, startsNonEmpty, wholeJudged, Reading, going, turned, readTo, readAs, unreadable, listingOr, listingFrom, goodLength, listingOf}
 use Rattle.model.specs.Listing as model
-use Rattle.model.proofs.Tests.{and-left, and-right, cond-cases}
+use Rattle.model.proofs.Tests.{and-left, and-right}
+use Rattle.model.proofs.Reading.{both-accepted, test-passed}
 use Rattle.reader.specs.declared.scan.Scan.{Scan}
 use Rattle.reader.specs.declared.scan.Point as code
 use Rattle.reader.specs.declared.scan.Progress.{Progress}
@@ -124,3 +125,36 @@ good-lines n e =
     let b = leb-true n 65520 (and-right (leb 1 n) (leb n 65520) (and-left (leb 1 n && leb n 65520) _ e)) in
     let c = eqb-true (n % 40) 0 (and-right (leb 1 n && leb n 65520) _ e) in
     omega arith
+
+-- what is known of the points of a listing that is read
+pub record Points (s : List ℕ) (ps : List Point) : Type 0 where
+  pub lines : (1 ≤ length s / 40) × (length s / 40 ≤ 1638) × (length s / 40 * 40 ≤ length s)
+  pub few : length ps ≤ 512
+  pub claims : List Claim
+  pub read : LinesRead s (length s / 40) ps claims
+
+few-points : (lines : ℕ) (ps : List Point) (cs : List Claim) → wholeJudged lines ps cs ≡ Accepted → length ps ≤ 512
+unfolding wholeJudged
+few-points lines ps cs e =
+    let (e10, _) = both-accepted (endsWithInstruction lines cs andThen fewPoints ps andThen allTargetsExist (length ps) ps andThen endsInPlace lines ps) (startsNonEmpty ps) e in
+    let (e9, _) = both-accepted (endsWithInstruction lines cs andThen fewPoints ps andThen allTargetsExist (length ps) ps) (endsInPlace lines ps) e10 in
+    let (e8, _) = both-accepted (endsWithInstruction lines cs andThen fewPoints ps) (allTargetsExist (length ps) ps) e9 in
+    let (_, few) = both-accepted (endsWithInstruction lines cs) (fewPoints ps) e8 in
+    leb-true (length ps) 512 (test-passed _ _ few)
+
+pub listing-points : (s : List ℕ) (ps : List Point) → listingOf s ≡ readAs ps → Points s ps
+listing-points s ps e = go (goodLength (length s)) refl
+  where
+    from : (r : Reading) → ReadSo s (length s / 40) r → listingFrom (length s / 40) r ≡ readAs ps → goodLength (length s) ≡ true → Points s ps
+    from (turned r) h k g = let z : _≡_ {A = ℕ} 0 1 = cc in absurd (omega arith)
+    from (going qs cs) h k g = whole (wholeJudged (length s / 40) qs cs) refl k
+      where
+        whole : (j : Judgement) → wholeJudged (length s / 40) qs cs ≡ j → listingOr j qs ≡ readAs ps → Points s ps
+        whole (refused r) w l = let z : _≡_ {A = ℕ} 0 1 = cc in absurd (omega arith)
+        whole Accepted w l =
+            let same : qs ≡ ps = cc in
+            subst (Points s) same (record { lines = good-lines (length s) g; few = few-points (length s / 40) qs cs w; claims = cs; read = h })
+
+    go : (b : Bool) → goodLength (length s) ≡ b → Points s ps
+    go true g = from (readTo s (length s / 40)) (read-so s (length s / 40)) (sym (listing-good s g) ∙ e) g
+    go false g = let w : unreadable ListingLength ≡ readAs ps = sym (listing-bad s g) ∙ e in let z : _≡_ {A = ℕ} 0 1 = cc in absurd (omega arith)

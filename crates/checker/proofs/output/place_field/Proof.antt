@@ -1,14 +1,10 @@
 use borrow.Author.Tests.{eq-eqb, ne-eqb}
 use Rattle.checker.proofs.output.place_field.Statement.{statement}
 use Rattle.checker.proofs.output.place_field.Tie as tie
-use Rattle.checker.proofs.output.place_field.Reads as reads
-use Rattle.checker.proofs.output.place_field.Lts as lts
 
--- src/output.rt:89:9
 returns : tie.Need-returns
 returns c = simp (eq-eqb _ _ (c .if1 .taken))
 
--- src/output.rt:85:1
 returns-2 : tie.Need-returns-2
 returns-2 c = simp (ne-eqb _ _ (c .if1 .left))
 

@@ -2,49 +2,34 @@ use Rattle.checker.proofs.Printing.{printed-pass, printed-fail}
 use borrow.Author.Needs.{needs}
 use Rattle.checker.proofs.output.printed.Statement.{statement}
 use Rattle.checker.proofs.output.printed.Tie as tie
-use Rattle.checker.proofs.output.printed.Reads as reads
-use Rattle.checker.proofs.output.printed.Lts as lts
-use Rattle.checker.proofs.output.fail_fields.Reads as fail-fields-reads
-use Rattle.checker.proofs.output.pass_fields.Reads as pass-fields-reads
-use Rattle.lines.proofs.write.set_line.Reads as set-line-reads
 
--- src/output.rt:132:27
 enum-known-v : tie.Need-enum-known-v
 enum-known-v c = search needs
 
--- src/output.rt:134:36
 slice-aggregate-set-line : tie.Need-slice-aggregate-set-line
 slice-aggregate-set-line c = search needs
 
--- src/output.rt:134:51
 pass-fields-requires : tie.Need-pass-fields-requires
 pass-fields-requires c κs = search needs
 
--- src/output.rt:134:13
 set-line-requires : tie.Need-set-line-requires
 set-line-requires c κs = search needs
 
--- src/output.rt:137:26
 enum-known-v-2 : tie.Need-enum-known-v-2
 enum-known-v-2 c = search needs
 
--- src/output.rt:139:36
 slice-aggregate-set-line-2 : tie.Need-slice-aggregate-set-line-2
 slice-aggregate-set-line-2 c = search needs
 
--- src/output.rt:139:51
 fail-fields-requires : tie.Need-fail-fields-requires
 fail-fields-requires c κs = search needs
 
--- src/output.rt:139:13
 set-line-requires-2 : tie.Need-set-line-requires-2
 set-line-requires-2 c κs = search needs
 
--- src/output.rt:127:1
 returns : tie.Need-returns
 returns c = rw (c .before .before .before .before .before .before .before .before .v .given .1, printed-pass, ← c .before .before .pass-fields .ensures) (c .before .set-line .ensures)
 
--- src/output.rt:127:1
 returns-2 : tie.Need-returns-2
 returns-2 c = rw (c .before .before .before .before .before .before .before .before .v2 .given .1, printed-fail, ← c .before .before .fail-fields .ensures) (c .before .set-line2 .ensures)
 

@@ -1,0 +1,23 @@
+use borrow.Author.Needs.{needs}
+use Rattle.checker.proofs.points.target_owed.Statement.{statement}
+use Rattle.checker.proofs.points.target_owed.Tie as tie
+
+has-target-requires : tie.Need-has-target-requires
+has-target-requires c κs = search needs
+
+target-of-requires : tie.Need-target-of-requires
+target-of-requires c κs = search needs
+
+edge-owed-requires : tie.Need-edge-owed-requires
+edge-owed-requires c κs = search needs
+
+returns : tie.Need-returns
+returns c = rw (← c .before .before .before .has-target .ensures, c .before .before .if1 .taken, ← c .before .target-of .ensures) (c .edge-owed .ensures)
+
+returns-2 : tie.Need-returns-2
+returns-2 c = rw (← c .before .has-target .ensures, c .if1 .left)
+
+pub target-owed-spec : {M : Type 1} → statement M
+target-owed-spec =
+    tie.close
+    (tie.spec has-target-requires target-of-requires edge-owed-requires returns returns-2)

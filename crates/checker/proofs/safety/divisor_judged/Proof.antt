@@ -1,0 +1,16 @@
+-- The test chooses the judgement. Assumes nothing.
+use borrow.Author.Needs.{needs}
+use Rattle.checker.proofs.safety.divisor_judged.Statement.{statement}
+use Rattle.checker.proofs.safety.divisor_judged.Tie as tie
+
+divisor-safe-requires : tie.Need-divisor-safe-requires
+divisor-safe-requires c κs = search needs
+
+returns : tie.Need-returns
+returns c = rw (← c .before .divisor-safe .ensures, c .if1 .taken)
+
+returns-2 : tie.Need-returns-2
+returns-2 c = rw (← c .before .divisor-safe .ensures, c .if1 .left)
+
+pub divisor-judged-spec : {M : Type 1} → statement M
+divisor-judged-spec = tie.close (tie.spec divisor-safe-requires returns returns-2)
