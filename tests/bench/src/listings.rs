@@ -1,0 +1,92 @@
+//! The listings that are timed.
+
+use lines::{listing, LINE};
+use reference::Instruction;
+use trials::draft::Draft;
+use trials::families::{guarded_loop, Loop};
+use trials::random::Random;
+
+const MOST_LINES: usize = 1638;
+const LAST: &str = "COPY 0 0";
+
+/// As many lines as may be, well filled, turned back by the very last one (10), so that nothing but reading happens.
+pub fn read_only() -> Vec<u8> {
+    let point = listing(
+        "LEAS 1 _ _ _ _ 65536; STRP 17 255 1 2 _ -4398046511104; STRP 16 4 1 _ _ 0; ADDW 12 13 _ _ 1 4294967295",
+    );
+    let mut text = point.repeat(MOST_LINES / 4);
+    while text.len() < MOST_LINES * LINE {
+        text.extend(listing(LAST));
+    }
+    text
+}
+
+/// A routine of so many points: guarded loops over the results, one after the other.
+pub fn typical(points: usize) -> Vec<u8> {
+    let mut random = Random::new(points as u64);
+    let over = Loop { index: 0, count: 1, size: 17, scale: 4, room: 2 };
+    let scratch = [2, 3, 4, 5];
+    let mut draft = Draft::default();
+    loop {
+        let mut longer = draft.clone();
+        guarded_loop(&mut random, &mut longer, &over, &scratch, 4);
+        if longer.points.len() >= points {
+            break;
+        }
+        draft = longer;
+    }
+    let kept = draft.points[0].claims.clone();
+    while draft.points.len() + 1 < points {
+        draft.push(Instruction::Copy { d: 2, i: 3 }).claims = kept.clone();
+    }
+    draft.push(Instruction::Stop);
+    draft.text()
+}
+
+/// Where the only link that helps stands among those that a search goes through.
+#[derive(Clone, Copy, PartialEq, Eq)]
+pub enum KeyLink {
+    /// Added by the branch, after every written stripe.
+    AddedLast,
+    /// Written before every other stripe.
+    WrittenFirst,
+}
+
+/// x − a × (o + o) ≥ 5, from which every goal over i and i follows by two links o − i ≥ 0.
+const STANDING: &str = "STRP 4 2 2 2 _ 5;";
+const KEY: &str = "STRP 2 1 1 _ _ 0;";
+const LEAST_BOUND: i64 = -4_294_967_295;
+
+/// As many points as fit, in threes: links and a branch, a STOP, and goals that follow along the branch only by
+/// the key link twice, which costs most where a search comes to it last. The other links lie between all pairs of
+/// three variables, or are all equal; none of them helps, and they follow by ranges.
+pub fn worst(key: KeyLink, equal: bool) -> Vec<u8> {
+    let others: &[(u8, u8)] = match key {
+        KeyLink::AddedLast => &[(1, 1), (3, 1), (2, 2), (3, 2), (1, 3), (2, 3), (3, 3)],
+        KeyLink::WrittenFirst => &[(1, 1), (2, 2), (1, 2), (3, 2), (2, 3), (3, 3)],
+    };
+    let link = |&(u, v): &(u8, u8)| {
+        let (u, v) = if equal { (1, 1) } else { (u, v) };
+        format!("STRP {u} 1 {v} _ _ {LEAST_BOUND};")
+    };
+    let links: String = others.iter().map(link).collect();
+    let goals: String = (0..others.len()).map(|less| format!("STRP 4 2 1 1 _ {};", 5 - less as i64)).collect();
+    let (carried, branched) = match key {
+        KeyLink::AddedLast => ("", 2),
+        KeyLink::WrittenFirst => (KEY, 3),
+    };
+    let mut text = Vec::new();
+    let mut target = 2;
+    loop {
+        let branch = format!("BEQU _ 1 _ {target} 0 {branched};");
+        let three = listing(&format!(
+            "{carried} {links} {STANDING} {branch} STOP; {carried} {STANDING} {goals} SETC 9 _ _ _ _ 0"
+        ));
+        if text.len() + three.len() + LINE > MOST_LINES * LINE {
+            text.extend(listing("STOP"));
+            return text;
+        }
+        text.extend(three);
+        target += 3;
+    }
+}

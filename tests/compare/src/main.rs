@@ -1,0 +1,98 @@
+//! Compares the proved checker with the reference on every family of listings, and the program with the examples.
+//! Counted are: each family, each example, and that no answer is rare.
+
+use reference::Answer;
+use std::fs::{self, File};
+use std::path::{Path, PathBuf};
+use std::process::{Command, ExitCode};
+use trials::{all, compare, of_reference, Tally, Verdict};
+
+#[derive(Default)]
+struct Count {
+    passed: u64,
+    failed: u64,
+}
+
+impl Count {
+    /// Counts one test and says what went wrong.
+    fn test(&mut self, outcome: Result<(), String>) {
+        match outcome {
+            Ok(()) => self.passed += 1,
+            Err(why) => {
+                self.failed += 1;
+                println!("failed: {why}");
+            }
+        }
+    }
+}
+
+fn main() -> ExitCode {
+    let mut count = Count::default();
+    compare_families(&mut count);
+    try_examples(&mut count);
+    println!("counted: each family of listings, each example, and once that no answer is rare");
+    println!("{} passed, {} failed", count.passed, count.failed);
+    if count.failed == 0 {
+        ExitCode::SUCCESS
+    } else {
+        ExitCode::FAILURE
+    }
+}
+
+fn of_archive(listing: &[u8]) -> Verdict {
+    let archive::Answer { number, place, second, points } = archive::check(listing);
+    Verdict { answer: Answer { number, place, second, points }, line: archive::printed(listing) }
+}
+
+fn compare_families(count: &mut Count) {
+    let mut whole = Tally::default();
+    println!("{}", Tally::heading());
+    for family in all() {
+        let outcome = compare(&family, &of_reference, &of_archive).map(|tally| {
+            println!("{} {}", tally.row(), family.name);
+            whole.add(&tally);
+        });
+        count.test(outcome.map_err(|difference| format!("first is the reference, second the archive: {difference}")));
+    }
+    println!("{} all {} listings", whole.row(), whole.total());
+    let rare = whole.rare();
+    count.test(if rare.is_empty() { Ok(()) } else { Err(format!("rarer than 1 in 1,000 (0 is PASS): {rare:?}")) });
+}
+
+fn root() -> PathBuf {
+    Path::new(env!("CARGO_MANIFEST_DIR")).join("../..")
+}
+
+fn try_examples(count: &mut Count) {
+    let program = root().join("check-listing");
+    if !program.exists() {
+        return count.test(Err("check-listing is missing at the root of the repository".to_string()));
+    }
+    let listings = examples();
+    if listings.is_empty() {
+        return count.test(Err("examples/ has no listings".to_string()));
+    }
+    listings.iter().for_each(|listing| count.test(try_example(&program, listing)));
+}
+
+/// The listings in examples/, by name.
+fn examples() -> Vec<PathBuf> {
+    let entries = fs::read_dir(root().join("examples")).into_iter().flatten().flatten();
+    let mut listings: Vec<PathBuf> = entries.map(|entry| entry.path()).collect();
+    listings.retain(|path| path.extension().is_some_and(|extension| extension == "lst"));
+    listings.sort();
+    listings
+}
+
+/// Gives the listing to the program on its standard input and compares what it prints.
+fn try_example(program: &Path, listing: &Path) -> Result<(), String> {
+    let name = listing.file_name().unwrap_or_default().to_string_lossy();
+    let expected = fs::read(listing.with_extension("expected")).map_err(|error| format!("{name}: {error}"))?;
+    let input = File::open(listing).map_err(|error| format!("{name}: {error}"))?;
+    let output = Command::new(program).stdin(input).output().map_err(|error| format!("{name}: {error}"))?;
+    if output.stdout == expected {
+        return Ok(());
+    }
+    let (expected, got) = (expected.escape_ascii(), output.stdout.escape_ascii());
+    Err(format!("{name}: the program printed '{got}', not '{expected}'"))
+}

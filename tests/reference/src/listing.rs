@@ -1,0 +1,126 @@
+//! A whole listing: lines to points. Refusals 1 to 11.
+
+use crate::known::Known;
+use crate::line::{read_line, Claim, Instruction, Line};
+use crate::refusals::{
+    BAD_LENGTH, BAD_ORDER, EMPTY_START, ENDS_IN_CLAIM, NO_SUCH_POINT, NO_SUCH_TARGET, RUNS_OFF_THE_END, TOO_MANY_POINTS,
+};
+
+pub const LINE_BYTES: usize = 40;
+/// The longest listing in bytes.
+pub const LONGEST: usize = 65_520;
+
+const MOST_POINTS: usize = 512;
+const MOST_STRIPES: usize = 8;
+
+/// Why something is turned back: the number, the place, and for 14 the second place.
+#[derive(Clone, Copy, Debug, PartialEq, Eq)]
+pub struct Refusal {
+    pub number: u64,
+    pub place: u64,
+    pub second: u64,
+}
+
+impl Refusal {
+    pub(crate) fn new(number: u64, place: u64) -> Refusal {
+        Refusal { number, place, second: 0 }
+    }
+}
+
+/// A claim and its line, counted from 1.
+#[derive(Clone, Copy, Debug)]
+pub struct ClaimLine {
+    pub claim: Claim,
+    pub line: u64,
+}
+
+/// An instruction, its line counted from 1, and the claims before it.
+#[derive(Clone, Debug)]
+pub struct Point {
+    pub instruction: Instruction,
+    pub line: u64,
+    pub claims: Vec<ClaimLine>,
+}
+
+#[derive(Clone, Debug)]
+pub struct Listing {
+    pub points: Vec<Point>,
+}
+
+/// The points of a listing that is turned back by none of 1 to 11.
+pub fn read(bytes: &[u8]) -> Result<Listing, Refusal> {
+    if bytes.is_empty() || bytes.len() > LONGEST || !bytes.len().is_multiple_of(LINE_BYTES) {
+        return Err(Refusal::new(BAD_LENGTH, 0));
+    }
+    let last_line = (bytes.len() / LINE_BYTES) as u64;
+    let mut points: Vec<Point> = Vec::new();
+    let mut claims: Vec<ClaimLine> = Vec::new();
+    for (index, bytes) in bytes.chunks(LINE_BYTES).enumerate() {
+        let line = index as u64 + 1;
+        match read_line(bytes).map_err(|number| Refusal::new(number, line))? {
+            Line::Instruction(instruction) => {
+                points.push(Point { instruction, line, claims: std::mem::take(&mut claims) });
+            }
+            Line::Claim(claim) if in_order(&claims, &claim) => claims.push(ClaimLine { claim, line }),
+            Line::Claim(_) => return Err(Refusal::new(BAD_ORDER, line)),
+        }
+    }
+    if !claims.is_empty() {
+        return Err(Refusal::new(ENDS_IN_CLAIM, last_line));
+    }
+    if points.len() > MOST_POINTS {
+        return Err(Refusal::new(TOO_MANY_POINTS, points[MOST_POINTS].line));
+    }
+    well_formed(&points, last_line)?;
+    Ok(Listing { points })
+}
+
+/// Refusals 9 to 11.
+fn well_formed(points: &[Point], last_line: u64) -> Result<(), Refusal> {
+    for point in points {
+        if target(&point.instruction).is_some_and(|target| target >= points.len()) {
+            return Err(Refusal::new(NO_SUCH_TARGET, point.line));
+        }
+    }
+    let last = points[points.len() - 1].instruction;
+    if !matches!(last, Instruction::Stop | Instruction::Jump { .. }) {
+        return Err(Refusal::new(RUNS_OFF_THE_END, last_line));
+    }
+    if Known::at(&points[0]).has_empty_range() {
+        return Err(Refusal::new(EMPTY_START, points[0].line));
+    }
+    Ok(())
+}
+
+fn target(instruction: &Instruction) -> Option<usize> {
+    match *instruction {
+        Instruction::Jump { target } | Instruction::Branch { target, .. } => Some(target),
+        _ => None,
+    }
+}
+
+/// Whether the claim may follow the claims already standing before the same instruction.
+fn in_order(before: &[ClaimLine], claim: &Claim) -> bool {
+    let Some(last) = before.last() else { return true };
+    match (last.claim, *claim) {
+        (Claim::Least { v: last, .. }, Claim::Least { v, .. }) => v > last,
+        (Claim::Most { v: last, .. }, Claim::Most { v, .. }) => v > last,
+        (Claim::Stripe(_), Claim::Stripe(_)) => stripes(before) < MOST_STRIPES,
+        (Claim::Least { .. }, _) => true,
+        (Claim::Most { .. }, Claim::Stripe(_)) => true,
+        _ => false,
+    }
+}
+
+fn stripes(claims: &[ClaimLine]) -> usize {
+    claims.iter().filter(|line| matches!(line.claim, Claim::Stripe(_))).count()
+}
+
+/// The part of the listing that holds the claim lines of a point, empty where there are none.
+pub fn claim_lines(bytes: &[u8], point: u64) -> Result<&[u8], Refusal> {
+    let listing = read(bytes)?;
+    let found = usize::try_from(point).ok().and_then(|point| listing.points.get(point));
+    let Some(found) = found else { return Err(Refusal::new(NO_SUCH_POINT, 0)) };
+    let end = (found.line as usize - 1) * LINE_BYTES;
+    Ok(&bytes[end - found.claims.len() * LINE_BYTES..end])
+}

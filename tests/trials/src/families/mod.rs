@@ -1,0 +1,55 @@
+//! The families of listings. Each is made of batches, and each batch comes from a seed of its own, so that any
+//! listing can be made again from the family and the batch.
+
+mod damage;
+mod limits;
+mod nudges;
+mod pieces;
+mod probes;
+mod routines;
+
+pub use routines::{guarded_loop, routine, Loop};
+
+use crate::random::Random;
+
+pub struct Family {
+    pub name: &'static str,
+    seed: u64,
+    pub batches: u64,
+    make: fn(&mut Random) -> Vec<Vec<u8>>,
+}
+
+impl Family {
+    pub fn batch(&self, batch: u64) -> Vec<Vec<u8>> {
+        let seed = Random::new(self.seed.wrapping_mul(1_000_003).wrapping_add(batch)).draw();
+        (self.make)(&mut Random::new(seed))
+    }
+
+    /// The same family with a share of its batches, for runs that cannot wait.
+    pub fn thinned(mut self, divisor: u64) -> Family {
+        self.batches = self.batches.div_ceil(divisor);
+        self
+    }
+}
+
+/// Every family of the comparison; together more than 200,000 listings.
+pub fn all() -> Vec<Family> {
+    let family = |name, seed, batches, make| Family { name, seed, batches, make };
+    vec![
+        family("routines that pass, with loops and stripes", 1, 14_000, routines::passing),
+        family("routines with one field nudged", 2, 8_000, nudges::nudged),
+        family("routines with one claim dropped, doubled or moved", 3, 3_000, nudges::rearranged),
+        family("one edge, claims at and beside what follows", 4, 70_000, probes::one_edge),
+        family("chains of one to four links", 5, 16_000, probes::chain),
+        family("accesses at and beside the end of a table", 6, 14_000, probes::access),
+        family("a few random points over few variables", 7, 24_000, probes::jumble),
+        family("stripe bounds shifted at their limits", 8, 6_000, probes::shifted),
+        family("an empty range that the step overwrites", 15, 8_000, probes::emptied),
+        family("damaged text", 9, 6_000, damage::damaged),
+        family("two damages at once", 10, 2_000, damage::damaged_twice),
+        family("fields at and beside their limits", 11, 8_000, limits::fields),
+        family("eight and nine stripes, order of claims", 12, 2_000, limits::claim_order),
+        family("512 and 513 points", 13, 900, limits::many_points),
+        family("65,520 and 65,560 bytes", 14, 60, limits::many_bytes),
+    ]
+}

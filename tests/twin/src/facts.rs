@@ -1,0 +1,269 @@
+//! Ranges and stripes at a point and along its edges. Ends are signed, so that an end below 0 stays below 0.
+
+use crate::read::{Operand, BOUND_LIMIT, LINE, MAX, SIZE_LIMIT};
+
+pub const VARIABLES: usize = 18;
+/// Stands for a blank z; its greatest value is 0.
+pub const BLANK: u8 = 18;
+const MOST_STRIPES: usize = 10;
+
+#[derive(Clone, Copy)]
+pub struct Stripe {
+    pub x: u8,
+    pub a: u8,
+    pub y: u8,
+    pub z: u8,
+    pub b: i64,
+}
+
+/// hi has one place more, for a blank z.
+#[derive(Clone, Copy)]
+pub struct Facts {
+    pub lo: [i64; VARIABLES],
+    pub hi: [i64; VARIABLES + 1],
+    stripes: [Stripe; MOST_STRIPES],
+    count: usize,
+}
+
+pub enum Claim {
+    Least(usize, i64),
+    Most(usize, i64),
+    Stripe(Stripe),
+}
+
+/// The number in columns already found to hold one or to be blank: a space counts as a zero before it.
+#[inline]
+fn number(columns: &[u8]) -> i64 {
+    columns.iter().fold(0, |number, byte| number * 10 + i64::from(byte & 15))
+}
+
+#[inline]
+fn bound(columns: &[u8]) -> i64 {
+    match columns.iter().position(|&byte| byte == b'-') {
+        Some(at) => -number(&columns[at + 1..]),
+        None => number(columns),
+    }
+}
+
+/// The claim on a line that has been read before.
+#[inline]
+pub fn claim(line: &[u8; LINE]) -> Claim {
+    let first = number(&line[4..8]);
+    match line[0] {
+        b'L' => Claim::Least(first as usize, number(&line[24..39])),
+        b'M' => Claim::Most(first as usize, number(&line[24..39])),
+        _ => Claim::Stripe(Stripe {
+            x: first as u8,
+            a: number(&line[8..12]) as u8,
+            y: number(&line[12..16]) as u8,
+            z: if line[19] == b' ' { BLANK } else { number(&line[16..20]) as u8 },
+            b: bound(&line[24..39]),
+        }),
+    }
+}
+
+impl Facts {
+    /// What the claim lines of a point say.
+    pub fn at(lines: &[[u8; LINE]]) -> Facts {
+        let none = Stripe { x: 0, a: 1, y: 0, z: BLANK, b: 0 };
+        let mut facts =
+            Facts { lo: [0; VARIABLES], hi: [MAX as i64; VARIABLES + 1], stripes: [none; MOST_STRIPES], count: 0 };
+        facts.hi[16] = SIZE_LIMIT as i64;
+        facts.hi[17] = SIZE_LIMIT as i64;
+        facts.hi[BLANK as usize] = 0;
+        for line in lines {
+            match claim(line) {
+                Claim::Least(v, value) => facts.lo[v] = value,
+                Claim::Most(v, value) => facts.hi[v] = value,
+                Claim::Stripe(stripe) => facts.push(stripe),
+            }
+        }
+        facts
+    }
+
+    #[inline]
+    pub fn stripes(&self) -> &[Stripe] {
+        &self.stripes[..self.count]
+    }
+
+    #[inline]
+    pub fn impossible(&self) -> bool {
+        self.lo.iter().zip(&self.hi).fold(false, |empty, (lo, hi)| empty | (lo > hi))
+    }
+
+    #[inline]
+    fn push(&mut self, stripe: Stripe) {
+        self.stripes[self.count] = stripe;
+        self.count += 1;
+    }
+
+    #[inline]
+    fn push_difference(&mut self, x: u8, y: u8, b: i64) {
+        self.push(Stripe { x, a: 1, y, z: BLANK, b });
+    }
+
+    /// Keeps the stripes that the test keeps, in their order; the test may change them.
+    #[inline]
+    fn retain(&mut self, mut keeps: impl FnMut(&mut Stripe) -> bool) {
+        let mut kept = 0;
+        for at in 0..self.count {
+            let mut stripe = self.stripes[at];
+            if keeps(&mut stripe) {
+                self.stripes[kept] = stripe;
+                kept += 1;
+            }
+        }
+        self.count = kept;
+    }
+
+    #[inline]
+    pub fn ends(&self, o: Operand) -> (i64, i64) {
+        match o {
+            Operand::Variable(v) => (self.lo[v as usize], self.hi[v as usize]),
+            Operand::Number(number) => (i64::from(number), i64::from(number)),
+        }
+    }
+
+    /// d takes the range and loses its stripes.
+    #[inline]
+    pub fn write(&mut self, d: u8, lo: i64, hi: i64) {
+        self.set(d, lo, hi);
+        self.retain(|stripe| stripe.x != d && stripe.y != d && stripe.z != d);
+    }
+
+    #[inline]
+    fn set(&mut self, v: u8, lo: i64, hi: i64) {
+        self.lo[v as usize] = lo;
+        self.hi[v as usize] = hi;
+    }
+
+    fn write_any(&mut self, d: u8) {
+        self.write(d, 0, MAX as i64);
+    }
+
+    pub fn copy(&mut self, d: u8, i: u8) {
+        if d == i {
+            return;
+        }
+        self.write(d, self.lo[i as usize], self.hi[i as usize]);
+        self.push_difference(d, i, 0);
+        self.push_difference(i, d, 0);
+    }
+
+    pub fn add(&mut self, d: u8, i: u8, o: Operand) {
+        let ((lo, hi), (lo_o, hi_o)) = (self.ends(Operand::Variable(i)), self.ends(o));
+        if hi + hi_o > MAX as i64 {
+            return self.write_any(d);
+        }
+        let (lo, hi) = (lo + lo_o, hi + hi_o);
+        match o {
+            Operand::Number(number) => self.shift(d, i, lo, hi, i64::from(number)),
+            Operand::Variable(v) => {
+                self.write(d, lo, hi);
+                if d != i && d != v {
+                    self.push(Stripe { x: d, a: 1, y: i, z: v, b: 0 });
+                }
+            }
+        }
+    }
+
+    pub fn subtract(&mut self, d: u8, i: u8, o: Operand) {
+        let ((lo, hi), (lo_o, hi_o)) = (self.ends(Operand::Variable(i)), self.ends(o));
+        if lo < hi_o {
+            return self.write_any(d);
+        }
+        let (lo, hi) = (lo - hi_o, hi - lo_o);
+        match o {
+            Operand::Number(number) => self.shift(d, i, lo, hi, -i64::from(number)),
+            Operand::Variable(v) => {
+                self.write(d, lo, hi);
+                if d != i && d != v {
+                    self.push(Stripe { x: i, a: 1, y: d, z: v, b: 0 });
+                }
+            }
+        }
+    }
+
+    /// d becomes i + by.
+    fn shift(&mut self, d: u8, i: u8, lo: i64, hi: i64, by: i64) {
+        if d != i {
+            self.write(d, lo, hi);
+            self.push_difference(d, i, by);
+            self.push_difference(i, d, -by);
+            return;
+        }
+        self.set(d, lo, hi);
+        self.retain(|stripe| {
+            let times = i64::from(stripe.y == d) + i64::from(stripe.z == d);
+            stripe.b += by * (i64::from(stripe.x == d) - i64::from(stripe.a) * times);
+            stripe.b.unsigned_abs() <= BOUND_LIMIT
+        });
+    }
+
+    pub fn multiply(&mut self, d: u8, i: u8, o: Operand) {
+        let ((lo, hi), (lo_o, hi_o)) = (self.ends(Operand::Variable(i)), self.ends(o));
+        let most = hi as u64 * hi_o as u64;
+        if most > MAX {
+            return self.write_any(d);
+        }
+        // from an empty range the least product may be beyond any greatest one
+        let least = (lo as u64 * lo_o as u64).min(MAX + 1);
+        self.write(d, least as i64, most as i64);
+        if let Operand::Number(scale @ 1..=255) = o {
+            if d != i {
+                self.push(Stripe { x: d, a: scale as u8, y: i, z: BLANK, b: 0 });
+            }
+        }
+    }
+
+    /// False where no step is possible.
+    pub fn divide(&mut self, d: u8, i: u8, o: Operand) -> bool {
+        let ((lo, hi), (lo_o, hi_o)) = (self.ends(Operand::Variable(i)), self.ends(o));
+        if hi_o == 0 {
+            return false;
+        }
+        self.write(d, lo / hi_o, hi / lo_o.max(1));
+        true
+    }
+
+    pub fn less(&mut self, i: u8, o: Operand) {
+        let ((lo, _), (_, hi_o)) = (self.ends(Operand::Variable(i)), self.ends(o));
+        let hi = &mut self.hi[i as usize];
+        *hi = (*hi).min(hi_o - 1);
+        if let Operand::Variable(v) = o {
+            let lo_o = &mut self.lo[v as usize];
+            *lo_o = (*lo_o).max(lo + 1);
+            self.push_difference(v, i, 1);
+        }
+    }
+
+    pub fn not_less(&mut self, i: u8, o: Operand) {
+        let ((_, hi), (lo_o, _)) = (self.ends(Operand::Variable(i)), self.ends(o));
+        let lo = &mut self.lo[i as usize];
+        *lo = (*lo).max(lo_o);
+        if let Operand::Variable(v) = o {
+            let hi_o = &mut self.hi[v as usize];
+            *hi_o = (*hi_o).min(hi);
+            self.push_difference(i, v, 0);
+        }
+    }
+
+    pub fn equal(&mut self, i: u8, o: Operand) {
+        let ((lo, hi), (lo_o, hi_o)) = (self.ends(Operand::Variable(i)), self.ends(o));
+        let (lo, hi) = (lo.max(lo_o), hi.min(hi_o));
+        self.set(i, lo, hi);
+        if let Operand::Variable(v) = o {
+            self.set(v, lo, hi);
+            self.push_difference(v, i, 0);
+            self.push_difference(i, v, 0);
+        }
+    }
+
+    pub fn not_equal(&mut self, i: u8, o: Operand) {
+        let ((lo, hi), (lo_o, hi_o)) = (self.ends(Operand::Variable(i)), self.ends(o));
+        if lo_o != hi_o {
+            return;
+        }
+        self.set(i, lo + i64::from(lo == lo_o), hi - i64::from(hi == lo_o));
+    }
+}
