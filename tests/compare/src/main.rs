@@ -2,7 +2,7 @@
 //! Counted are: each family, each example, and that no answer is rare.
 
 use reference::Answer;
-use std::fs::{self, File};
+use std::fs;
 use std::path::{Path, PathBuf};
 use std::process::{Command, ExitCode};
 use trials::{all, compare, of_reference, Tally, Verdict};
@@ -84,12 +84,11 @@ fn examples() -> Vec<PathBuf> {
     listings
 }
 
-/// Gives the listing to the program on its standard input and compares what it prints.
+/// Gives the listing to the program and compares what it prints.
 fn try_example(program: &Path, listing: &Path) -> Result<(), String> {
     let name = listing.file_name().unwrap_or_default().to_string_lossy();
     let expected = fs::read(listing.with_extension("expected")).map_err(|error| format!("{name}: {error}"))?;
-    let input = File::open(listing).map_err(|error| format!("{name}: {error}"))?;
-    let output = Command::new(program).stdin(input).output().map_err(|error| format!("{name}: {error}"))?;
+    let output = Command::new(program).arg(listing).output().map_err(|error| format!("{name}: {error}"))?;
     if output.stdout == expected {
         return Ok(());
     }
