@@ -3,3 +3,4 @@ pub mod Tables
 pub mod Wholes
 pub mod Gathering
 pub mod Listings
+pub mod Parts
