@@ -1,5 +1,5 @@
 -- The checker's answer from a listing that is read or turned back. Assumes nothing.
-use mathlib.Core.Path.{_≡_, refl, sym, ap, _∙_}
+use mathlib.Core.Path.{_≡_, refl, ap, _∙_}
 use mathlib.Core.List.{List}
 use Prim.Native.Nat.{ℕ, _/_}
 use native.Mathlib.Omega.{arith}
@@ -7,8 +7,8 @@ use lib.ListN.{length}
 use Rattle.model.specs.declared.answers.Refusal.{Refusal}
 use Rattle.model.specs.declared.answers.Judgement.{Judgement}
 use Rattle.model.specs.declared.answers.Judgement.the-variants.{Accepted, Refused as refused}
-use Rattle.model.specs.declared.answers.Verdict.the-variants.{Passed, Refused as turnedBack}
-use Rattle.model.specs.Listing.{Point, readAs, unreadable, listingOf, pointsOf}
+use Rattle.model.specs.declared.answers.Verdict.the-variants.{Refused as turnedBack}
+use Rattle.model.specs.Listing.{readAs, unreadable, listingOf, pointsOf}
 use Rattle.model.specs.Listing as model
 use Rattle.model.specs.Check.{pointsJudged, verdictFrom, verdictOf, check}
 use Rattle.reader.specs.declared.listing.Listing.{Listing}

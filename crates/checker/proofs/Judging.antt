@@ -1,11 +1,11 @@
 -- The first refusal stays. Assumes nothing.
-use mathlib.Core.Path.{_≡_, refl, ap, _∙_}
+use mathlib.Core.Path.{_≡_, ap, _∙_}
 use mathlib.Core.List.{List}
 use Prim.Native.Nat.{ℕ, zero, suc, _+_}
 use native.Mathlib.Nat.{add-zero}
 use native.Mathlib.Omega.{arith}
 use Rattle.model.specs.declared.answers.Refusal.{Refusal}
-use Rattle.model.specs.declared.answers.Judgement.the-variants.{Accepted, Refused as refused}
+use Rattle.model.specs.declared.answers.Judgement.the-variants.{Refused as refused}
 use Rattle.model.specs.Listing.{Point}
 use Rattle.model.specs.Check.{pointsJudged}
 

@@ -1,39 +1,37 @@
 -- What a point owes by the code is what it owes by the model. Assumes nothing.
 use mathlib.Core.Path.{_≡_, refl, sym, ap, ap₂, subst, _∙_}
 use mathlib.Core.Bool.{Bool, true, false, cond, false≢true}
-use mathlib.Core.List.{List, [], _∷_}
-use Prim.Native.Nat.{ℕ, zero, suc, _+_, _-_, _/_, _≤_, _<_}
+use mathlib.Core.List.{List}
+use Prim.Native.Nat.{ℕ, suc, _+_, _-_, _/_, _<_}
 use native.Mathlib.Omega.{arith}
 use native.Mathlib.Numerals.{add-one}
 use native.Mathlib.Decide.{decLt}
-use lib.ListN.{length, getD}
+use lib.ListN.{length}
 use borrow.Author.Tests.{ltb-true}
 use Rattle.model.specs.declared.machine.Instruction.{Instruction}
 use Rattle.model.specs.declared.machine.Instruction.the-variants.{Stop, Setc, Copy, Addw, Subw, Mulw, Divf, Load, Stor, Jump, Bltu, Bequ}
 use Rattle.model.specs.declared.machine.Edge.{Edge}
 use Rattle.model.specs.declared.machine.Edge.the-variants.{Next, Target}
 use Rattle.model.specs.declared.claims.Claim.{Claim}
-use Rattle.model.specs.declared.answers.Refusal.{Refusal}
 use Rattle.model.specs.declared.answers.Judgement.{Judgement}
 use Rattle.model.specs.declared.answers.Judgement.the-variants.{Accepted, Refused as refused}
 use Rattle.model.specs.declared.answers.Refusal.the-variants.{NoSuchTarget}
 use Rattle.model.specs.Answers.{_andThen_}
 use Rattle.model.specs.Facts.{Facts, factsOf}
-use Rattle.model.specs.Listing.{Point, firstLine, pointAt, targets, goesOn, targetsExist, allTargetsExist, readAs, listingOf}
-use Rattle.model.specs.Transfer.{edges, leadsTo, factsAlong}
+use Rattle.model.specs.Listing.{Point, pointAt, targets, goesOn, targetsExist, readAs, listingOf}
+use Rattle.model.specs.Transfer.{edges, factsAlong}
 use Rattle.model.specs.Check.{claimsJudged, edgesJudged, safetyJudged, pointJudged, pointsJudged}
 use Rattle.model.proofs.Limits.{Limited}
 use Rattle.model.proofs.Lists.{all-at}
 use Rattle.model.proofs.Steps.{targets-at}
 use Rattle.model.proofs.Reading.{both-accepted, test-passed, PointLimited, WellFormed, well-formed}
 use Rattle.reader.specs.declared.scan.Point as code
-use Rattle.reader.specs.Scan.{coded, noPoint, tableTo, claimsIn}
+use Rattle.reader.specs.Scan.{coded, tableTo}
 use Rattle.reader.specs.Whole.{tableAt}
-use Rattle.reader.specs.Listing.{firstOf, PointLines}
-use Rattle.reader.proofs.Tables.{PointRead, LinesRead}
+use Rattle.reader.specs.Listing.{PointLines}
+use Rattle.reader.proofs.Tables.{PointRead}
 use Rattle.reader.proofs.Listings.{Points, listing-points, point-lines}
-use Rattle.checker.specs.Edges.{edgeLost}
-use Rattle.checker.specs.Points.{nextOf, hasTarget, targetOf, isRefused, edgeOwed, nextOwed, targetOwed, owed}
+use Rattle.checker.specs.Points.{nextOf, targetOf, isRefused, edgeOwed, nextOwed, targetOwed, owed}
 use Rattle.checker.proofs.Edges.{edge-same}
 use Rattle.checker.proofs.Judging.{refused-stays}
 

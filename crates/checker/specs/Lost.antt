@@ -1,7 +1,7 @@
 -- The claims of a target tested line by line, as the code reads them.
 use Prim.Native.Nat.{ℕ, zero, suc, _+_}
-use mathlib.Core.Bool.{Bool, true, false, cond}
-use mathlib.Core.List.{List, [], _∷_}
+use mathlib.Core.Bool.{cond}
+use mathlib.Core.List.{List}
 use lib.Dec.{eqb}
 use Rattle.model.specs.declared.claims.Line.{Line}
 use Rattle.model.specs.declared.claims.Line.the-variants.{Refused as refusedLine, Claim as claimLine, Instruction as instructionLine}

@@ -1,19 +1,19 @@
 -- What follows holds of every valuation that meets the facts. Assumes nothing.
-use mathlib.Core.Path.{_≡_, refl, ap, sym}
-use mathlib.Core.Bool.{Bool, true, false, _&&_, _||_, false≢true, cond}
+use mathlib.Core.Path.{_≡_, refl, ap}
+use mathlib.Core.Bool.{Bool, true, false, _&&_, false≢true, cond}
 use mathlib.Core.List.{List, [], _∷_}
 use Prim.Native.Nat.{ℕ, zero, suc, _+_, _*_, _≤_}
 use native.Mathlib.Nat.{add-comm, mul-add, mul-le-mul-left, one-mul}
 use native.Mathlib.Omega.{arith}
 use lib.Dec.{eqb, leb}
 use borrow.Author.Tests.{leb-true, le-leb, eqb-true}
-use Rattle.model.specs.Types.{Range, Stripe, Claim, Leas, Most, Strp}
-use Rattle.model.specs.Limits.{variables, blankVariable, greatestLinks}
+use Rattle.model.specs.Types.{Stripe, Claim, Leas, Most, Strp}
+use Rattle.model.specs.Limits.{variables, greatestLinks}
 use Rattle.model.specs.Lists.{some}
 use Rattle.model.specs.Facts.{Facts, lo, hi, nonEmpty}
 use Rattle.model.specs.Follows.{byRanges, sameSides, covers, atOnce, isLink, overY, overZ, throughLink, follows, claimFollows, firstLost, lostAlong}
 use Rattle.model.proofs.Tests.{or-cases, and-left, and-right, all-below}
-use Rattle.model.proofs.Meaning.{InRange, InRanges, Holds, AllHold, Met}
+use Rattle.model.proofs.Meaning.{Holds, AllHold, Met}
 
 -- what each stripe that passes shows, a list in which some stripe passes shows
 some-holds : (val : ℕ → ℕ) {P : Type 0} (p : Stripe → Bool) (ss : List Stripe) → AllHold val ss → ((s : Stripe) → Holds val s → p s ≡ true → P) → some p ss ≡ true → P

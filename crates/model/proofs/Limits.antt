@@ -1,14 +1,13 @@
 -- What the fields of an accepted line may hold: the limits of every instruction and claim that is read. Assumes nothing.
 use mathlib.Core.Path.{_≡_, refl}
-use mathlib.Core.Bool.{Bool, true, false, _&&_, cond, false≢true}
-use mathlib.Core.List.{List, [], _∷_}
+use mathlib.Core.Bool.{Bool, true, false, _&&_, cond}
+use mathlib.Core.List.{List}
 use Prim.Native.Nat.{ℕ, _≤_, _<_}
 use native.Mathlib.Omega.{arith}
 use lib.Dec.{ltb, leb, eqb}
 use borrow.Author.Tests.{ltb-true, leb-true}
-use Rattle.model.specs.Types.{Field, Blank, Number, Negative, Misshapen, Word, STOP, SETC, COPY, ADDW, SUBW, MULW, DIVF, LOAD, STOR, JUMP, BLTU, BEQU, LEAS, MOST, STRP, FoundWord, Unknown, Known, Operand, variable, number, Instruction, Stop, Setc, Copy, Addw, Subw, Mulw, Divf, Load, Stor, Jump, Bltu, Bequ, Stripe, Claim, Leas, Most, Strp, Line, refusedLine, claimLine, instructionLine, LineBytes, UnknownWord, FieldShape, NumberLimits, Judgement, Accepted, refused}
+use Rattle.model.specs.Types.{Field, Blank, Number, Negative, Misshapen, Word, STOP, SETC, COPY, ADDW, SUBW, MULW, DIVF, LOAD, STOR, JUMP, BLTU, BEQU, LEAS, MOST, STRP, FoundWord, Unknown, Known, Operand, variable, number, Instruction, Stop, Setc, Copy, Addw, Subw, Mulw, Divf, Load, Stor, Jump, Bltu, Bequ, Stripe, Claim, Leas, Most, Strp, Line, refusedLine, claimLine, instructionLine, LineBytes, FieldShape, NumberLimits, Accepted, refused}
 use Rattle.model.specs.Limits.{registers, variables, MAX, greatestSize, greatestScale, greatestOffset, greatestBound, greatestPoints}
-use Rattle.model.specs.Lists.{everyBelow}
 use Rattle.model.specs.Text.{valueIn}
 use Rattle.model.specs.Words.{words, wordAmong, fieldsOf, within, allowed}
 use Rattle.model.specs.Lines.{wellSpelled, fieldsIn, fieldAt, F1, F2, F3, F4, F5, F6, kindAt, inShape, inLimits, judged, operandFrom, variableOrBlank, plusIn, minusIn, lineFrom, lineOr, lineFound, readLine}

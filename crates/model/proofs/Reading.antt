@@ -1,19 +1,17 @@
 -- What is known of the points of a listing that is read. Assumes nothing.
-use mathlib.Core.Path.{_≡_, refl, sym, ap, _∙_}
-use mathlib.Core.Bool.{Bool, true, false, _&&_, cond, false≢true}
+use mathlib.Core.Path.{_≡_, refl}
+use mathlib.Core.Bool.{Bool, true, false, cond, false≢true}
 use mathlib.Core.List.{List, [], _∷_, _++_}
 use Prim.Native.Nat.{ℕ, zero, suc, _+_, _-_, _/_, _≤_, _<_}
 use native.Mathlib.Omega.{arith}
 use lib.ListN.{length, length-append}
-use lib.Dec.{ltb}
-use borrow.Author.Tests.{ltb-true}
-use Rattle.model.specs.Types.{Instruction, Claim, Line, refusedLine, claimLine, instructionLine, Refusal, ListingLength, NoSuchTarget, NoEnd, EmptyStart, ClaimOrder, Judgement, Accepted, refused}
+use Rattle.model.specs.Types.{Claim, Line, refusedLine, claimLine, instructionLine, Refusal, ListingLength, NoEnd, ClaimOrder, Judgement, Accepted, refused}
 use Rattle.model.specs.Limits.{lineBytes}
 use Rattle.model.specs.Answers.{_andThen_}
 use Rattle.model.specs.Lines.{readLine}
-use Rattle.model.specs.Listing.{Point, lineAt, inOrder, Reading, going, turned, afterLine, readTo, targets, goesOn, pointAt, endsWithInstruction, fewPoints, targetsExist, allTargetsExist, endsInPlace, startsNonEmpty, wholeJudged, Listing, readAs, unreadable, listingOr, listingFrom, goodLength, listingOf}
+use Rattle.model.specs.Listing.{Point, lineAt, inOrder, Reading, going, turned, afterLine, readTo, targets, goesOn, pointAt, endsWithInstruction, fewPoints, allTargetsExist, endsInPlace, startsNonEmpty, wholeJudged, Listing, readAs, unreadable, listingOr, listingFrom, goodLength, listingOf}
 use Rattle.model.proofs.Tests.{cond-cases}
-use Rattle.model.proofs.Lists.{All, all-snoc, all-at}
+use Rattle.model.proofs.Lists.{All, all-snoc}
 use Rattle.model.proofs.Limits.{Limited, ClaimLimited, LineLimited, read-limited}
 
 -- two tests made in order are both passed

@@ -1,7 +1,7 @@
 -- A run of a passed listing makes the steps that it reports. Assumes nothing.
-use mathlib.Core.Path.{_≡_, refl, ap, sym, subst, _∙_}
-use mathlib.Core.Bool.{Bool, true, false, cond, false≢true}
-use mathlib.Core.List.{List, [], _∷_}
+use mathlib.Core.Path.{_≡_, refl, ap, sym, _∙_}
+use mathlib.Core.Bool.{true, false, false≢true}
+use mathlib.Core.List.{List}
 use Prim.Native.Nat.{ℕ, zero, suc, _+_, _≤_, _<_}
 use native.Mathlib.Nat.{not-suc-le-zero}
 use native.Mathlib.Numerals.{add-one}
@@ -11,8 +11,8 @@ use lib.ListN.{length}
 use lib.Dec.{eqb, leb}
 use Rattle.model.specs.Types.{Width, Instruction, Stop, Setc, Copy, Addw, Subw, Mulw, Divf, Load, Stor, Jump, Bltu, Bequ}
 use Rattle.model.specs.Listing.{Point}
-use Rattle.model.specs.Machine.{Config, valueOf, operandValue, bytesOf, tableOf, readBytes, writeBytes, quotient, address, wrote, stored, inside, instructionAt, Step, next, stopped, errorState, stepOf, stepAt, Machine, at, failed, settled, onward, steps}
-use Rattle.model.specs.Run.{Progress, progress, advanced, runFor, isStop, stands}
+use Rattle.model.specs.Machine.{Config, valueOf, operandValue, bytesOf, tableOf, readBytes, writeBytes, quotient, address, wrote, stored, inside, instructionAt, Step, next, stopped, errorState, stepOf, stepAt, at, settled, onward, steps}
+use Rattle.model.specs.Run.{Progress, advanced, runFor, isStop, stands}
 use Rattle.model.proofs.Tests.{cond-cases}
 use Rattle.model.proofs.Stepping.{Good, StepGood}
 use Rattle.model.proofs.Steps.{Passes, step-kept}

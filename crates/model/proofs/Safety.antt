@@ -1,28 +1,27 @@
 -- Demand 3, proved. Assumes nothing.
-use mathlib.Core.Path.{_≡_, refl, ap, ap₂, sym, subst, subst₂, _∙_}
-use mathlib.Core.Bool.{Bool, true, false, _&&_, cond, false≢true}
+use mathlib.Core.Path.{_≡_, refl, ap, ap₂, sym, subst, subst₂}
+use mathlib.Core.Bool.{Bool, true, false, cond}
 use mathlib.Core.List.{List, [], _∷_}
 use Prim.Native.Nat.{ℕ, _+_, _≤_, _<_}
 use native.Mathlib.Omega.{arith}
 use lib.ListN.{length, length-append}
-use lib.Dec.{ltb, leb}
+use lib.Dec.{ltb}
 use borrow.Author.Tests.{ltb-true, lt-ltb, le-leb}
-use Rattle.model.specs.Types.{State, Judgement, Accepted, refused, Passed, Verdict, turnedBack, Stopped, Paused, Refusal, Table, Trays, Results}
+use Rattle.model.specs.Types.{State, Judgement, Accepted, refused, Passed, Stopped, Paused, Trays, Results}
 use Rattle.model.specs.Limits.{registers, variables, greatestSize}
-use Rattle.model.specs.Answers.{_andThen_}
-use Rattle.model.specs.Facts.{factsOf, meets, valueAt}
+use Rattle.model.specs.Facts.{factsOf, valueAt}
 use Rattle.model.specs.Listing.{Point, pointAt, Listing, readAs, unreadable, listingOf, pointsOf, pointExists}
-use Rattle.model.specs.Machine.{Config, configOf, stateOf, valuesFrom, values, valueOf, errorState, stepAt, Step, next, stopped, steps, at}
+use Rattle.model.specs.Machine.{Config, configOf, stateOf, valuesFrom, values, steps}
 use Rattle.model.specs.Check.{pointsJudged, listingJudged, verdictFrom, verdictOf, check}
-use Rattle.model.specs.Run.{meetsClaims, tablesFit, claimsMet, runJudged, Progress, runFor, stands, Ran, finished, ranFrom, run}
-use Rattle.model.specs.Safety.{Call, Bytes, Lends, AllLend, HaltedWell, EndedWell, RunsWell, ranOn, Kept, Safety}
+use Rattle.model.specs.Run.{meetsClaims, tablesFit, claimsMet, runJudged, runFor, stands, Ran, finished, ranFrom, run}
+use Rattle.model.specs.Safety.{Call, Bytes, AllLend, HaltedWell, EndedWell, RunsWell, ranOn, Kept, Safety}
 use Rattle.model.proofs.Tests.{and-left, and-right, and-both}
 use Rattle.model.proofs.Lists.{all-at}
 use Rattle.model.proofs.Meaning.{Met, met, meets-met}
-use Rattle.model.proofs.Facts.{facts-long, top, top-claimed, Bounded, met-bounded}
+use Rattle.model.proofs.Facts.{facts-long, top-claimed, Bounded, met-bounded}
 use Rattle.model.proofs.Reading.{accepted-both, passed-test, PointLimited, well-formed}
 use Rattle.model.proofs.Stepping.{Typed, size-value, Good, StepGood}
-use Rattle.model.proofs.Steps.{Passes, each-accepted, step-kept, Reached, reached-all}
+use Rattle.model.proofs.Steps.{Passes, each-accepted, step-kept, reached-all}
 use Rattle.model.proofs.Runs.{ran}
 use Rattle.model.proofs.Runs
 

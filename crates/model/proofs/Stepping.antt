@@ -1,36 +1,34 @@
 -- One step from a configuration that meets the claims of its point: no error, and the claims of the next point are met. Assumes nothing.
 use mathlib.Core.Path.{_≡_, refl, ap, sym, subst, _∙_}
-use mathlib.Core.Logic.{_≢_}
-use mathlib.Core.Bool.{Bool, true, false, _&&_, _||_, cond, false≢true}
-use mathlib.Core.List.{List, [], _∷_, _++_}
-use Prim.Native.Nat.{ℕ, zero, suc, _+_, _*_, _-_, _/_, _%_, _^_, _≤_, _<_}
+use mathlib.Core.Bool.{true, cond}
+use mathlib.Core.List.{List, [], _∷_}
+use Prim.Native.Nat.{ℕ, _+_, _*_, _^_, _≤_, _<_}
 use native.Mathlib.Nat.{add-zero, mul-le-mul-left}
 use native.Mathlib.Omega.{arith}
-use native.Mathlib.Decide.{ℕ-discrete, decLt}
+use native.Mathlib.Decide.{ℕ-discrete}
 use lib.ListN.{length, getD, set, length-set, length-append}
 use lib.Seq.{getD-set-same, getD-set-other, set-append-left, getD-at, getD-append-add}
 use lib.Dec.{ltb, leb, eqb}
-use borrow.Author.Tests.{ltb-true, ltb-false, leb-true, leb-false, eqb-true, eqb-false, lt-ltb, le-leb, ne-eqb}
-use Rattle.model.specs.Types.{Width, One, Two, Four, Table, Trays, Results, Operand, variable, number, Instruction, Stop, Setc, Copy, Addw, Subw, Mulw, Divf, Load, Stor, Jump, Bltu, Bequ, Edge, Next, Target, Claim, Judgement, Accepted, refused, NoSuchTarget, DivisorMayBeZero, AccessMayLeave, ClaimMayFail}
+use borrow.Author.Tests.{ltb-true, ltb-false, leb-true, leb-false, eqb-true, eqb-false}
+use Rattle.model.specs.Types.{Width, One, Two, Four, Table, Trays, Results, Operand, Instruction, Stop, Setc, Copy, Addw, Subw, Mulw, Divf, Load, Stor, Jump, Bltu, Bequ, Edge, Next, Target, Claim, Accepted, refused, NoSuchTarget, DivisorMayBeZero, AccessMayLeave, ClaimMayFail}
 use Rattle.model.specs.Limits.{registers, variables, blankVariable, MAX, modulus, greatestLinks}
-use Rattle.model.specs.Answers.{_andThen_}
-use Rattle.model.specs.Facts.{registerRange, sizeRange, unclaimedRange, Facts, unclaimed, rangeOf, lo, hi, factsOf, valueAt}
-use Rattle.model.specs.Listing.{Point, firstLine, pointAt, targets, goesOn, targetsExist, allTargetsExist}
-use Rattle.model.specs.Machine.{Config, valuesFrom, values, operandAt, valueOf, operandValue, bytesOf, tableOf, sizeVariable, readBytes, writeBytes, sum, difference, product, quotient, address, wrote, went, stored, Step, next, stopped, errorState, inside, stepOf, stepAt}
-use Rattle.model.specs.Transfer.{edges, leadsTo, operandRange, stripe, factsAlong}
-use Rattle.model.specs.Follows.{follows, lostAlong}
-use Rattle.model.specs.Check.{divisorSafe, accessSafe, safetyJudged, claimsJudged, edgesJudged, pointJudged, pointsJudged}
+use Rattle.model.specs.Facts.{Facts, lo, hi, factsOf, valueAt}
+use Rattle.model.specs.Listing.{Point, firstLine, pointAt, targets, goesOn, targetsExist}
+use Rattle.model.specs.Machine.{Config, valuesFrom, values, valueOf, operandValue, bytesOf, tableOf, sizeVariable, readBytes, writeBytes, sum, difference, product, quotient, address, wrote, went, stored, Step, next, stopped, errorState, inside, stepOf}
+use Rattle.model.specs.Transfer.{stripe, factsAlong}
+use Rattle.model.specs.Follows.{lostAlong}
+use Rattle.model.specs.Check.{divisorSafe, accessSafe, safetyJudged, claimsJudged, pointJudged}
 use Rattle.model.specs.Safety.{Bytes}
-use Rattle.model.proofs.Tests.{or-cases, and-left, and-right, cond-cases}
+use Rattle.model.proofs.Tests.{or-cases, cond-cases}
 use Rattle.model.proofs.Lists.{All, all-at}
-use Rattle.model.proofs.Meaning.{InRange, InRanges, Holds, Met}
-use Rattle.model.proofs.Follows.{follows-holds, ClaimsHold, none-lost-along}
-use Rattle.model.proofs.Facts.{facts-long, Bounded, top, top-register, blank-value, small-value, met-bounded, met-facts}
+use Rattle.model.proofs.Meaning.{Holds, Met}
+use Rattle.model.proofs.Follows.{follows-holds, none-lost-along}
+use Rattle.model.proofs.Facts.{facts-long, Bounded, top, top-register, blank-value, small-value, met-facts}
 use Rattle.model.proofs.Ranges.{OnlyAt}
 use Rattle.model.proofs.Values.{div-small, read-below, write-long, write-byte}
 use Rattle.model.proofs.Transfer.{in-operand, setc-met, copy-met, addw-met, subw-met, mulw-met, divf-met, load-met, less-met, not-less-met, equal-met, unequal-met}
 use Rattle.model.proofs.Limits.{Limited}
-use Rattle.model.proofs.Reading.{both-accepted, test-passed, PointLimited, WellFormed}
+use Rattle.model.proofs.Reading.{both-accepted, test-passed, PointLimited}
 
 -- a configuration of the machine's types: sixteen registers, tables of n and m bytes, no value above the unclaimed end of its variable
 pub record Typed (n m : ℕ) (c : Config) : Type 0 where

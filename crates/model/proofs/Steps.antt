@@ -1,16 +1,15 @@
 -- k steps of a passed listing: where they lead, and that k steps and then j are k + j. Assumes nothing.
-use mathlib.Core.Path.{_≡_, refl, ap, sym, subst, _∙_}
-use mathlib.Core.Bool.{Bool, true, false, cond, false≢true}
+use mathlib.Core.Path.{_≡_, refl, ap, sym, _∙_}
+use mathlib.Core.Bool.{true, false, false≢true}
 use mathlib.Core.List.{List, [], _∷_}
-use Prim.Native.Nat.{ℕ, zero, suc, _+_, _-_, _≤_, _<_}
+use Prim.Native.Nat.{ℕ, zero, suc, _+_, _-_, _<_}
 use native.Mathlib.Nat.{add-zero, add-suc, not-suc-le-zero, le-of-suc-le-suc}
 use native.Mathlib.Omega.{arith}
 use native.Mathlib.Decide.{ℕ-discrete, decLt}
 use lib.ListN.{length, getD}
-use Rattle.model.specs.Types.{Judgement, Accepted}
-use Rattle.model.specs.Answers.{_andThen_}
+use Rattle.model.specs.Types.{Accepted}
 use Rattle.model.specs.Listing.{Point, pointAt, targets, goesOn, targetsExist, allTargetsExist}
-use Rattle.model.specs.Machine.{Config, Step, next, stopped, errorState, stepAt, Machine, at, failed, settled, onward, steps}
+use Rattle.model.specs.Machine.{Config, Step, next, stopped, errorState, stepAt, Machine, at, settled, onward, steps}
 use Rattle.model.specs.Check.{pointJudged, pointsJudged}
 use Rattle.model.proofs.Lists.{all-at}
 use Rattle.model.proofs.Reading.{both-accepted, PointLimited, WellFormed}

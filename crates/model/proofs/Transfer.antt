@@ -2,21 +2,21 @@
 use mathlib.Core.Path.{_≡_, refl, ap, sym, _∙_}
 use mathlib.Core.Logic.{_≢_}
 use mathlib.Core.Bool.{Bool, true, false, _&&_, _||_, not, cond}
-use mathlib.Core.List.{List, [], _∷_}
-use Prim.Native.Nat.{ℕ, _+_, _*_, _-_, _/_, _%_, _^_, _≤_, _<_, min, max}
+use mathlib.Core.List.{List, _∷_}
+use Prim.Native.Nat.{ℕ, _+_, _*_, _-_, _^_, _≤_, _<_, max}
 use native.Mathlib.Nat.{add-zero, mul-comm}
 use native.Mathlib.Omega.{arith}
 use native.Mathlib.Decide.{ℕ-discrete}
 use lib.ListN.{length, set}
 use lib.Dec.{eqb, leb}
 use borrow.Author.Tests.{leb-true, leb-false, eqb-true, eqb-false, not-true}
-use Rattle.model.specs.Types.{Width, Table, Operand, variable, number, Instruction, Stop, Setc, Copy, Addw, Subw, Mulw, Divf, Load, Stor, Jump, Bltu, Bequ, Edge, Next, Target, Range, Stripe}
+use Rattle.model.specs.Types.{Width, Table, Operand, variable, number, Setc, Copy, Addw, Subw, Mulw, Divf, Load, Bltu, Bequ, Edge, Next, Target, Range, Stripe}
 use Rattle.model.specs.Limits.{MAX, variables, blankVariable, greatestScale}
-use Rattle.model.specs.Facts.{between, exactly, registerRange, Facts, rangeOf, valueAt}
+use Rattle.model.specs.Facts.{between, exactly, Facts, rangeOf, valueAt}
 use Rattle.model.specs.Machine.{operandAt, bytesOf, sum, difference, product, quotient}
-use Rattle.model.specs.Transfer.{nothing, operandRange, sumFits, sumRange, differenceFits, differenceRange, productFits, productRange, quotientRange, below, atLeast, atMost, overlap, without, hasOneValue, changed, operandChanged, lessRanges, notLessRanges, equalRanges, unequalRanges, dropped, stripe, apart, byNumber, sumStripes, differenceStripes, productStripes, lessStripes, notLessStripes, equalStripes, factsAlong}
+use Rattle.model.specs.Transfer.{nothing, operandRange, sumFits, differenceFits, productFits, below, atLeast, atMost, overlap, without, hasOneValue, changed, operandChanged, dropped, stripe, apart, sumStripes, differenceStripes, productStripes, lessStripes, notLessStripes, equalStripes, factsAlong}
 use Rattle.model.proofs.Tests.{and-right, or-false, cond-cases}
-use Rattle.model.proofs.Meaning.{InRange, InRanges, Holds, AllHold, Met}
+use Rattle.model.proofs.Meaning.{InRange, InRanges, AllHold, Met}
 use Rattle.model.proofs.Ranges.{OnlyAt, in-set, in-changed, blank-zero}
 use Rattle.model.proofs.Stripes.{same-hold, apart-holds, dropped-hold, by-number}
 use Rattle.model.proofs.Values.{div-ends, mul-ends}

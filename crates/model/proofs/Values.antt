@@ -1,9 +1,8 @@
 -- The ends of sums, differences, products and quotients at the values, and w bytes as a number. Assumes nothing.
 use mathlib.Core.Path.{_≡_, refl}
-use mathlib.Core.Bool.{Bool, true, false, cond}
 use mathlib.Core.List.{List}
-use Prim.Native.Nat.{ℕ, zero, suc, _+_, _*_, _-_, _/_, _%_, _^_, _≤_, _<_, max}
-use native.Mathlib.Nat.{le-trans, add-zero, mul-le-mul, mul-le-mul-left, div-mul-le-self, le-div-iff-mul-le, mul-comm, max-le, le-max-right, pow-succ', div-one}
+use Prim.Native.Nat.{ℕ, zero, suc, _+_, _*_, _/_, _%_, _^_, _≤_, _<_, max}
+use native.Mathlib.Nat.{le-trans, mul-le-mul, mul-le-mul-left, div-mul-le-self, le-div-iff-mul-le, max-le, le-max-right, pow-succ', div-one}
 use native.Mathlib.Omega.{arith}
 use native.Mathlib.Decide.{ℕ-discrete, decLt}
 use lib.ListN.{length, getD, set, length-set}

@@ -2,7 +2,7 @@
 -- Every point owes the same, reached or not: first that its divisor or access is safe by what is known at the point itself,
 -- then, along each of its edges, the claims of the point that the edge leads to, in the order of their lines.
 use Prim.Native.Nat.{ℕ, zero, suc, _+_, _*_}
-use mathlib.Core.Bool.{Bool, true, false, _&&_, _||_, cond}
+use mathlib.Core.Bool.{Bool, _||_, cond}
 use mathlib.Core.List.{List, [], _∷_}
 use lib.ListN.{length}
 use lib.Dec.{leb, eqb}

@@ -6,7 +6,7 @@ use mathlib.Core.Bool.{Bool, _&&_, cond}
 use mathlib.Core.List.{List, [], _∷_}
 use lib.ListN.{getD, set}
 use lib.Dec.{leb, eqb}
-use Rattle.model.specs.Types.{Field, Blank, Number, Negative, Misshapen, Word, STOP, SETC, COPY, ADDW, SUBW, MULW, DIVF, LOAD, STOR, JUMP, BLTU, BEQU, LEAS, MOST, STRP, FoundWord, Unknown, Known, Kind, empty, Width, One, Two, Four, Table, Trays, Results, Operand, variable, number, Stop, Setc, Copy, Addw, Subw, Mulw, Divf, Load, Stor, Jump, Bltu, Bequ, Stripe, Leas, Most, Strp, Line, refusedLine, claimLine, instructionLine, LineBytes, UnknownWord, FieldShape, NumberLimits, Judgement, Accepted, refused}
+use Rattle.model.specs.Types.{Field, Blank, Number, Negative, Misshapen, Word, STOP, SETC, COPY, ADDW, SUBW, MULW, DIVF, LOAD, STOR, JUMP, BLTU, BEQU, LEAS, MOST, STRP, FoundWord, Unknown, Known, Kind, empty, Width, One, Two, Four, Table, Trays, Results, Operand, variable, number, Stop, Setc, Copy, Addw, Subw, Mulw, Divf, Load, Stor, Jump, Bltu, Bequ, Leas, Most, Strp, Line, refusedLine, claimLine, instructionLine, LineBytes, UnknownWord, FieldShape, NumberLimits, Judgement, Accepted, refused}
 use Rattle.model.specs.Limits.{blankVariable}
 use Rattle.model.specs.Lists.{everyBelow}
 use Rattle.model.specs.Text.{space, lineEnd, fieldOf, valueIn, fieldSet}

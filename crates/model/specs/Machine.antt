@@ -2,7 +2,7 @@
 -- A configuration is a state with the bytes of both tables, so that it is a fact about the step, and no matter of notation, that the trays stay as they are.
 -- The error state is a case of its own, and so is standing at STOP, which makes no step.
 use Prim.Native.Nat.{ℕ, zero, suc, _+_, _*_, _-_, _/_, _%_}
-use mathlib.Core.Bool.{Bool, true, false, cond}
+use mathlib.Core.Bool.{cond}
 use mathlib.Core.List.{List, [], _∷_, _++_}
 use lib.ListN.{length, getD, set}
 use lib.Dec.{leb, ltb, eqb}

@@ -2,15 +2,15 @@
 -- A run repeats 1 to 14, then tests 15 for both tables, 16 and 17. A refused run hands back what it was handed, with 0 steps.
 use Prim.Native.Nat.{ℕ, zero, suc, _+_}
 use mathlib.Core.Bool.{Bool, true, false, _&&_, cond}
-use mathlib.Core.List.{List, [], _∷_}
+use mathlib.Core.List.{List}
 use lib.ListN.{length}
 use lib.Dec.{leb, ltb}
-use Rattle.model.specs.Types.{Instruction, Stop, Setc, Copy, Addw, Subw, Mulw, Divf, Load, Stor, Jump, Bltu, Bequ, State, TableLength, NoSuchPoint, ClaimsNotMet, Judgement, Accepted, refused, Verdict, Passed, turnedBack, Report, Stopped, Paused, notRun, Outcome}
+use Rattle.model.specs.Types.{Instruction, Stop, Setc, Copy, Addw, Subw, Mulw, Divf, Load, Stor, Jump, Bltu, Bequ, State, TableLength, ClaimsNotMet, Judgement, Accepted, refused, Stopped, Paused, notRun, Outcome}
 use Rattle.model.specs.Limits.{greatestSize}
 use Rattle.model.specs.Answers.{_andThen_}
 use Rattle.model.specs.Facts.{factsOf, meets}
 use Rattle.model.specs.Listing.{Point, pointAt, listingOf, pointsOf, pointExists}
-use Rattle.model.specs.Machine.{Config, configOf, stateOf, valuesFrom, values, Step, next, stopped, errorState, instructionAt, stepOf, stepAt}
+use Rattle.model.specs.Machine.{Config, configOf, stateOf, valuesFrom, Step, next, stopped, errorState, instructionAt, stepOf, stepAt}
 use Rattle.model.specs.Check.{listingJudged, check}
 
 -- a state 'meets the claims' of its point, over tables of n and m bytes: the point exists, and the values of all variables meet its facts

@@ -6,7 +6,7 @@ use mathlib.Core.Path.{_≡_}
 use mathlib.Core.Bool.{true, false}
 use mathlib.Core.List.{List, [], _∷_}
 use lib.ListN.{length, getD}
-use Rattle.model.specs.Types.{State, Passed, Report, Stopped, Paused, notRun, Outcome}
+use Rattle.model.specs.Types.{State, Passed, Report, Stopped, Paused, notRun}
 use Rattle.model.specs.Limits.{registers, MAX}
 use Rattle.model.specs.Listing.{Point, listingOf, pointsOf}
 use Rattle.model.specs.Machine.{Config, configOf, stateOf, errorState, stepAt, at, steps}

@@ -2,7 +2,7 @@
 -- The columns are read as a shape and as digits, each a fold over the columns from the left; the writer sets them from the right.
 -- The number of columns is a parameter: four for F1 to F5, fifteen for F6.
 use Prim.Native.Nat.{ℕ, zero, suc, _+_, _*_, _-_, _/_, _%_}
-use mathlib.Core.Bool.{Bool, true, false, _&&_, cond}
+use mathlib.Core.Bool.{Bool, _&&_, cond}
 use mathlib.Core.List.{List}
 use lib.ListN.{getD, set}
 use lib.Dec.{leb, ltb, eqb}

@@ -2,10 +2,10 @@
 -- The new ends of all ranges are computed from the ends before the step. Ends are whole numbers; where one falls below 0 the range is
 -- written as one that holds nothing, since only its emptiness counts: an edge with an empty range is impossible.
 use Prim.Native.Nat.{ℕ, _+_, _*_, _-_, _^_, min, max}
-use mathlib.Core.Bool.{Bool, true, false, not, _&&_, _||_, cond}
+use mathlib.Core.Bool.{Bool, not, _&&_, _||_, cond}
 use mathlib.Core.List.{List, [], _∷_, _++_, map}
 use lib.ListN.{set}
-use lib.Dec.{leb, ltb, eqb}
+use lib.Dec.{leb, eqb}
 use Rattle.model.specs.Types.{Operand, variable, number, Instruction, Stop, Setc, Copy, Addw, Subw, Mulw, Divf, Load, Stor, Jump, Bltu, Bequ, Edge, Next, Target, Range, Stripe}
 use Rattle.model.specs.Limits.{MAX, blankVariable, greatestScale, greatestBound}
 use Rattle.model.specs.Lists.{kept}

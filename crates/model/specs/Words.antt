@@ -1,8 +1,8 @@
 -- Document 01, 'The machine' and 'Claims': the words, what each asks of its six fields, and the limits of what the fields hold.
 -- A field's kind says which shapes it takes; its content says what its number stands for, and so its limits.
 -- Two contents depend on another field: an operand's F6 on F5, and the number of LEAS and MOST on F1.
-use Prim.Native.Nat.{ℕ, zero, suc, _+_, _*_}
-use Prim.Native.Char.{Char, code}
+use Prim.Native.Nat.{ℕ}
+use Prim.Native.Char.{code}
 use Prim.Native.String.{String, [] as end, _∷_ as _then_}
 use mathlib.Core.Bool.{Bool, true, false, not, _&&_, _||_, cond}
 use mathlib.Core.List.{List, [], _∷_}

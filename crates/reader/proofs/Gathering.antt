@@ -1,5 +1,5 @@
 -- Claims gathered from lines, one line at a time. Assumes nothing.
-use mathlib.Core.Path.{_≡_, refl, sym, ap, _∙_}
+use mathlib.Core.Path.{_≡_, refl, ap}
 use mathlib.Core.List.{List, [], _∷_, _++_}
 use Prim.Native.Nat.{ℕ, zero, suc, _+_, _≤_, _<_}
 use native.Mathlib.Omega.{arith}
@@ -7,7 +7,7 @@ use native.Mathlib.Decide.{ℕ-discrete}
 use Rattle.model.specs.declared.claims.Claim.{Claim}
 use Rattle.model.specs.Facts.{Facts, unclaimed, withClaim, withClaims, factsOf}
 use Rattle.model.specs.Listing.{stripesAmong}
-use Rattle.reader.specs.Scan.{stripesIn, lineRead, claimOn, claimsIn}
+use Rattle.reader.specs.Scan.{lineRead, claimOn, claimsIn}
 use Rattle.reader.proofs.Scanning.{stripes-cons}
 
 pub claims-next : (s : List ℕ) (from n : ℕ) → claimsIn s from (suc n) ≡ claimsIn s from n ++ claimOn (lineRead s (from + n))

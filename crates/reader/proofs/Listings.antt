@@ -1,34 +1,31 @@
 -- A listing read by the code is the model's. Assumes nothing.
 use mathlib.Core.Path.{_≡_, refl, sym, ap, ap₂, subst, _∙_}
-use mathlib.Core.Bool.{Bool, true, false, cond, false≢true, _&&_}
-use mathlib.Core.List.{List, [], _∷_}
-use Prim.Native.Nat.{ℕ, _+_, _-_, _*_, _/_, _%_, _≤_, _<_}
+use mathlib.Core.Bool.{Bool, true, false, cond, _&&_}
+use mathlib.Core.List.{List}
+use Prim.Native.Nat.{ℕ, _+_, _*_, _/_, _%_, _≤_, _<_}
 use native.Mathlib.Omega.{arith}
 use lib.ListN.{length}
 use lib.Dec.{eqb, leb}
-use borrow.Author.Tests.{eqb-true, leb-true, leb-false, ltb-false}
+use borrow.Author.Tests.{eqb-true, leb-true}
 use Rattle.model.specs.declared.claims.Claim.{Claim}
 use Rattle.model.specs.declared.answers.Refusal.{Refusal}
 use Rattle.model.specs.declared.answers.Judgement.{Judgement}
 use Rattle.model.specs.declared.answers.Judgement.the-variants.{Accepted, Refused as refused}
-use Rattle.model.specs.declared.answers.Refusal.the-variants.{ListingLength, LastLineClaim, EmptyStart}
+use Rattle.model.specs.declared.answers.Refusal.the-variants.{ListingLength, LastLineClaim}
 use Rattle.model.specs.Limits.{lineBytes}
 use Rattle.model.specs.Answers.{_andThen_}
-use Rattle.model.specs.Facts.{factsOf}
-use Rattle.model.specs.Transfer.{possible}
-use Rattle.model.specs.Listing.{Point, pointAt, endsWithInstruction, fewPoints, allTargetsExist, endsInPlace, startsNonEmpty, wholeJudged, Reading, going, turned, readTo, readAs, unreadable, listingOr, listingFrom, goodLength, listingOf}
+use Rattle.model.specs.Listing.{Point, endsWithInstruction, fewPoints, allTargetsExist, endsInPlace, startsNonEmpty, wholeJudged, Reading, going, turned, readTo, readAs, unreadable, listingOr, listingFrom, goodLength, listingOf}
 use Rattle.model.specs.Listing as model
 use Rattle.model.proofs.Tests.{and-left, and-right}
 use Rattle.model.proofs.Reading.{both-accepted, test-passed}
 use Rattle.reader.specs.declared.scan.Scan.{Scan}
 use Rattle.reader.specs.declared.scan.Point as code
-use Rattle.reader.specs.declared.scan.Progress.{Progress}
 use Rattle.reader.specs.declared.scan.Progress.the-variants.{Going, Turned}
 use Rattle.reader.specs.declared.listing.Listing.{Listing}
-use Rattle.reader.specs.Scan.{scanOf, progressOf, coded, tableTo, claimsIn}
+use Rattle.reader.specs.Scan.{scanOf, progressOf, tableTo}
 use Rattle.reader.specs.Whole.{tableAt, pointsJudged}
-use Rattle.reader.specs.Listing.{firstOf, PointLines, startJudged, judgedOf, Whole, ReadFrom, Stands}
-use Rattle.reader.proofs.Tables.{PointRead, LinesRead, ReadSo, read-so}
+use Rattle.reader.specs.Listing.{PointLines, startJudged, judgedOf, Whole, ReadFrom}
+use Rattle.reader.proofs.Tables.{LinesRead, ReadSo, read-so}
 use Rattle.reader.proofs.Wholes.{whole-same}
 
 -- a point that stands in the table has its claim lines in the listing

@@ -1,11 +1,9 @@
 -- The claim lines of a point, from a listing that is read or turned back. Assumes nothing.
-use mathlib.Core.Path.{_≡_, refl, sym, ap, subst, _∙_}
-use mathlib.Core.Bool.{true, false}
+use mathlib.Core.Path.{_≡_, refl, sym, ap, _∙_}
 use mathlib.Core.List.{List, []}
-use Prim.Native.Nat.{ℕ, _+_, _-_, _*_, _/_, _≤_, _<_}
+use Prim.Native.Nat.{ℕ, _*_, _≤_, _<_}
 use native.Mathlib.Omega.{arith}
 use lib.ListN.{length, take, drop}
-use lib.Dec.{ltb}
 use borrow.Author.Tests.{lt-ltb, le-ltb}
 use Rattle.model.specs.declared.answers.Refusal.{Refusal}
 use Rattle.model.specs.declared.answers.Judgement.the-variants.{Accepted, Refused as refused}
@@ -13,10 +11,10 @@ use Rattle.model.specs.Listing.{Point, pointAt, readAs, unreadable, listingOf, 
 use Rattle.model.specs.Listing as model
 use Rattle.reader.specs.declared.scan.Point as code
 use Rattle.reader.specs.declared.listing.Listing.{Listing}
-use Rattle.reader.specs.Scan.{coded, tableTo}
+use Rattle.reader.specs.Scan.{coded}
 use Rattle.reader.specs.Whole.{tableAt}
 use Rattle.reader.specs.Listing.{firstOf, Stands}
-use Rattle.reader.proofs.Listings.{Points, listing-points}
+use Rattle.reader.proofs.Listings.{listing-points}
 
 lines-are : (s : List ℕ) (p : ℕ) → claimLines s p ≡ partOr (claimLinesJudged (listingOf s) p) (claimPart s (pointAt (pointsOf (listingOf s)) p))
 unfolding claimLines

@@ -1,8 +1,8 @@
 -- What the code keeps goes with what the model reads, line by line. Assumes nothing.
-use mathlib.Core.Path.{_≡_, refl, sym, ap, ap₂, _∙_}
+use mathlib.Core.Path.{_≡_, refl, sym, ap, _∙_}
 use mathlib.Core.Bool.{Bool, true, false, _&&_, cond, and-true, and-false}
 use mathlib.Core.List.{List, [], _∷_, _++_}
-use Prim.Native.Nat.{ℕ, zero, suc, _+_, _≤_, _<_}
+use Prim.Native.Nat.{ℕ, _+_, _≤_, _<_}
 use native.Mathlib.Nat.{add-zero}
 use native.Mathlib.Omega.{arith}
 use native.Mathlib.Decide.{decLe}
@@ -13,11 +13,9 @@ use Rattle.model.specs.declared.claims.Claim.{Claim}
 use Rattle.model.specs.declared.claims.Claim.the-variants.{Leas, Most, Strp}
 use Rattle.model.specs.declared.claims.Line.{Line}
 use Rattle.model.specs.declared.claims.Line.the-variants.{Refused as refusedLine, Claim as claimLine, Instruction as instructionLine}
-use Rattle.model.specs.declared.answers.Refusal.{Refusal}
 use Rattle.model.specs.declared.answers.Refusal.the-variants.{ClaimOrder}
 use Rattle.model.specs.Listing.{Point, mayFollow, mayFollowAll, stripesAmong, inOrder, Reading, going, turned, afterLine}
-use Rattle.reader.specs.Scan.{lastOf, stripesIn, scanOf, progressOf, inOrderAfter, afterClaim, afterScan}
-use Rattle.reader.specs.declared.scan.Progress.{Progress}
+use Rattle.reader.specs.Scan.{lastOf, stripesIn, scanOf, progressOf, inOrderAfter, afterScan}
 use Rattle.reader.specs.declared.scan.Progress.the-variants.{Going, Turned}
 
 pub stripes-cons : (c : Claim) (cs : List Claim) → stripesAmong (c ∷ cs) ≡ stripesAmong cs + stripesIn c

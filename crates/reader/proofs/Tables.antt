@@ -1,16 +1,16 @@
 -- The table of points holds the points that are read, and the claim lines of a point hold its claims. Assumes nothing.
-use mathlib.Core.Path.{_≡_, refl, sym, ap, ap₂, subst, _∙_}
-use mathlib.Core.Bool.{Bool, true, false, cond}
+use mathlib.Core.Path.{_≡_, refl, _∙_}
+use mathlib.Core.Bool.{true, cond}
 use mathlib.Core.List.{List, [], _∷_, _++_}
 use Prim.Native.Nat.{ℕ, zero, suc, _+_, _-_, _≤_, _<_}
 use native.Mathlib.Nat.{not-suc-le-zero}
 use native.Mathlib.Omega.{arith}
 use native.Mathlib.Numerals.{add-one}
-use native.Mathlib.Decide.{decLe, decLt, ℕ-discrete}
-use lib.ListN.{length, getD, set, replicate, length-append, length-set, length-replicate, List·getD-append}
+use native.Mathlib.Decide.{ℕ-discrete}
+use lib.ListN.{length, getD, set, length-append, length-set, length-replicate, List·getD-append}
 use lib.Seq.{getD-set-same, getD-set-other, getD-at}
-use lib.Dec.{leb, ltb}
-use borrow.Author.Tests.{le-leb, lt-leb, ltb-false, leb-true}
+use lib.Dec.{leb}
+use borrow.Author.Tests.{le-leb, leb-true}
 use Rattle.model.specs.declared.machine.Instruction.{Instruction}
 use Rattle.model.specs.declared.machine.Instruction.the-variants.{Stop}
 use Rattle.model.specs.declared.claims.Claim.{Claim}
@@ -19,7 +19,7 @@ use Rattle.model.specs.declared.claims.Line.the-variants.{Refused as refusedLin
 use Rattle.model.specs.declared.answers.Refusal.the-variants.{ClaimOrder}
 use Rattle.model.specs.Listing.{Point, firstLine, pointAt, stripesAmong, inOrder, mayFollowAll, Reading, going, turned, afterLine, readTo}
 use Rattle.model.proofs.Tests.{and-right, cond-cases}
-use Rattle.reader.specs.Scan.{lineRead, progressOf, afterScan, coded, noPoint, slotOf, pointFrom, tableTo, claimOn, claimsIn, Within}
+use Rattle.reader.specs.Scan.{lineRead, progressOf, afterScan, coded, noPoint, slotOf, pointFrom, tableTo, claimsIn, Within}
 use Rattle.reader.specs.declared.scan.Point as code
 use Rattle.reader.proofs.Scanning.{stripes-cons, stripes-snoc, after-same}
 

@@ -1,21 +1,19 @@
 -- The tests over the table of points are the model's over the points. Assumes nothing.
-use mathlib.Core.Path.{_≡_, refl, sym, ap, ap₂, _∙_}
-use mathlib.Core.Bool.{Bool, true, false, cond}
+use mathlib.Core.Path.{_≡_, refl, sym, ap, _∙_}
 use mathlib.Core.List.{List, [], _∷_, _++_}
-use Prim.Native.Nat.{ℕ, zero, suc, _+_, _-_, _≤_, _<_}
+use Prim.Native.Nat.{ℕ, zero, suc, _-_, _≤_, _<_}
 use native.Mathlib.Omega.{arith}
 use native.Mathlib.Decide.{decLe}
-use lib.ListN.{length, getD, take}
+use lib.ListN.{length, take}
 use lib.Seq.{take-suc, take-length}
-use lib.Dec.{leb, ltb, eqb, eqb·suc-zero}
+use lib.Dec.{eqb·suc-zero}
 use borrow.Author.Tests.{le-leb, lt-leb, le-ltb, lt-ltb}
 use Rattle.model.specs.declared.claims.Claim.{Claim}
 use Rattle.model.specs.declared.answers.Judgement.{Judgement}
 use Rattle.model.specs.declared.answers.Judgement.the-variants.{Accepted, Refused as refused}
-use Rattle.model.specs.declared.answers.Refusal.the-variants.{LastLineClaim, TooManyPoints, NoEnd}
 use Rattle.model.specs.Answers.{_andThen_}
-use Rattle.model.specs.Listing.{Point, pointAt, goesOn, targets, targetsExist, allTargetsExist, endsInPlace, fewPoints, startsNonEmpty, wholeJudged}
-use Rattle.reader.specs.Scan.{scanOf, coded, tableTo, noPoint}
+use Rattle.model.specs.Listing.{Point, pointAt, targets, targetsExist, allTargetsExist, endsInPlace, startsNonEmpty, wholeJudged}
+use Rattle.reader.specs.Scan.{scanOf, tableTo}
 use Rattle.reader.specs.Whole.{tableAt, targetsTo, lastJudged, pointsJudged}
 use Rattle.reader.proofs.Tables.{LinesRead, noModelPoint}
 

@@ -1,19 +1,17 @@
 -- How the code keeps what the model reads: counts and the last claim in place of lists, and a table of points.
 -- The table has 514 places: one for each of 512 points, one for the 513th, whose line refusal 8 names, and one that takes every other line.
 use Prim.Native.Nat.{ℕ, zero, suc, _+_, _≤_}
-use mathlib.Core.Bool.{Bool, true, false, _&&_, cond}
+use mathlib.Core.Bool.{Bool, true, false, cond}
 use mathlib.Core.List.{List, [], _∷_, _++_}
 use lib.ListN.{length, set, replicate}
 use lib.Dec.{leb, ltb, eqb}
-use Rattle.model.specs.declared.machine.Instruction.{Instruction}
 use Rattle.model.specs.declared.machine.Instruction.the-variants.{Stop}
 use Rattle.model.specs.declared.claims.Claim.{Claim}
 use Rattle.model.specs.declared.claims.Claim.the-variants.{Leas, Most, Strp}
 use Rattle.model.specs.declared.claims.Line.{Line}
 use Rattle.model.specs.declared.claims.Line.the-variants.{Refused as refusedLine, Claim as claimLine, Instruction as instructionLine}
-use Rattle.model.specs.declared.answers.Refusal.{Refusal}
 use Rattle.model.specs.declared.answers.Refusal.the-variants.{ClaimOrder}
-use Rattle.model.specs.Limits.{greatestPoints, greatestStripes}
+use Rattle.model.specs.Limits.{greatestStripes}
 use Rattle.model.specs.Lines.{readLine}
 use Rattle.model.specs.Listing.{lineAt, mayFollow, stripesAmong, Reading, going, turned, readTo}
 use Rattle.model.specs.Listing as model

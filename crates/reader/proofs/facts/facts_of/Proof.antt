@@ -1,6 +1,6 @@
 -- The loop keeps the facts equal to those of the claims passed. Assumes nothing.
 use Prim.Native.Nat.{ℕ, _≤_, _+_, _*_, _-_}
-use mathlib.Core.Path.{_≡_, refl, sym, ap, _∙_}
+use mathlib.Core.Path.{_≡_, _∙_}
 use native.Mathlib.Omega.{arith}
 use native.Mathlib.Numerals.{add-one}
 use borrow.Author.Needs.{needs}
@@ -9,7 +9,7 @@ use Rattle.model.specs.Facts.{factsOf}
 use Rattle.model.specs.Listing.{stripesAmong}
 use Rattle.model.proofs.Limits.{read-limited}
 use Rattle.domain.specs.Known.{known, AtPoint}
-use Rattle.reader.specs.Scan.{claimsIn, lineRead}
+use Rattle.reader.specs.Scan.{claimsIn}
 use Rattle.reader.proofs.Gathering.{claims-none, claims-next, facts-none, facts-append, stripes-append, gather-room}
 use Rattle.reader.proofs.facts.facts_of.Statement.{statement}
 use Rattle.reader.proofs.facts.facts_of.Tie as tie
