@@ -18,7 +18,7 @@ use Rattle.model.proofs.Stepping.{Good, StepGood}
 use Rattle.model.proofs.Steps.{Passes, step-kept}
 
 -- a step is made from every instruction but STOP
-abbrev Made : Instruction → Step → Type 0
+abbrev pub Made : Instruction → Step → Type 0
 Made i (next c) = isStop i ≡ false
 Made i stopped = isStop i ≡ true
 Made i errorState = Unit {0}
@@ -26,7 +26,7 @@ Made i errorState = Unit {0}
 made-inside : (i : Instruction) (a : ℕ) (w : Width) (l : List ℕ) (c : Config) → isStop i ≡ false → Made i (inside a w l c)
 made-inside i a w l c e = cond-cases (Made i) (leb (a + bytesOf w) (length l)) (next c) errorState (λ z. e) (λ z. tt)
 
-made : (i : Instruction) (c : Config) → Made i (stepOf i c)
+pub made : (i : Instruction) (c : Config) → Made i (stepOf i c)
 unfolding stepOf
 made Stop c = refl
 made (Setc d x) c = refl

@@ -49,7 +49,7 @@ checked l k e = go (listingOf l) refl e
 
 module _ (ps : List Point) (passes : Passes ps) (n m : ℕ) where
   -- a state that meets the claims of its point, with tables of these sizes
-  good-start : (s : State) (ts rs : List ℕ) → length (s .registers) ≡ registers → Bytes n ts → Bytes m rs → meetsClaims ps s n m ≡ true → Good ps n m (configOf s ts rs)
+  pub good-start : (s : State) (ts rs : List ℕ) → length (s .registers) ≡ registers → Bytes n ts → Bytes m rs → meetsClaims ps s n m ≡ true → Good ps n m (configOf s ts rs)
   unfolding meetsClaims
   good-start s ts rs sixteen t r e =
       let inside : s .point < length ps = ltb-true _ _ (and-left (ltb (s .point) (length ps)) _ e) in

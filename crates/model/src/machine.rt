@@ -85,7 +85,8 @@ pub enum Edge {
     Target(usize),
 }
 
-// A state: a point and the registers.
+// A state: a point and the registers, laid out as C does, so that one can be lent across it.
+#[repr(C)]
 pub struct State {
     pub point: usize,
     pub registers: [u32; 16],
