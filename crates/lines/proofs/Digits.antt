@@ -16,7 +16,7 @@ pub digit-byte : (b : ℕ) → isDigit b ≡ true → (48 ≤ b) × (b ≤ 57)
 unfolding isDigit
 digit-byte b e = (leb-true 48 b (and-left (leb 48 b) _ e), leb-true b 57 (and-right (leb 48 b) _ e))
 
-digit-below : (b : ℕ) → digitOf b ≤ 9
+pub digit-below : (b : ℕ) → digitOf b ≤ 9
 unfolding digitOf
 digit-below b = go (isDigit b) refl
   where

@@ -1,17 +1,15 @@
-// The columns of a field, read once from the left.
+// The columns of a field: spaces, then a minus or none, then digits.
+use crate::fours;
 use model::text::Field;
-use model::text::Shape;
 ghost use mathlib.Core.Path.{_≡_};
-ghost use Prim.Native.Nat.{_+_, _*_, _≤_, _<_, _^_};
-ghost use lib.ListN.{length};
-ghost use Rattle.model.specs.declared.text.Shape.the-variants.{Spaces};
-ghost use Rattle.model.specs.Text.{isDigit, digitOf, nextShape, fieldFrom, fieldOf};
-
-// The shape of the columns so far and the number that their digits give.
-struct Gathered {
-    shape: Shape,
-    digits: u64,
-}
+ghost use mathlib.Core.Bool.{true, false, _&&_, cond};
+ghost use Prim.Native.Nat.{_+_, _≤_, _<_};
+ghost use lib.ListN.{length, getD};
+ghost use lib.Dec.{leb, eqb};
+ghost use Rattle.model.specs.declared.text.Field.the-variants.{Blank};
+ghost use Rattle.model.specs.declared.text.Shape.the-variants.{Spaces, Digits, Sign, Signed};
+ghost use Rattle.model.specs.Text.{space, isDigit, digitOf, shapeOf, digitsOf, fieldOf};
+ghost use Rattle.model.specs.Lines.{widthOf};
 
 // A decimal digit.
 fn is_digit(b: u8) -> bool
@@ -20,92 +18,117 @@ fn is_digit(b: u8) -> bool
     (b'0' <= b) & (b <= b'9')
 }
 
-// The value of a digit, and 0 for any other byte.
-fn digit(b: u8) -> u8
+// A digit that a number of several digits may begin with.
+fn is_leading(b: u8) -> bool
+    ensures { λ r. ⌜ r ≡ (leb 49 b && leb b 57) ⌝ }
+{
+    (b'1' <= b) & (b <= b'9')
+}
+
+// The value of a digit.
+fn digit(b: u8) -> u64
+    requires { ⌜ isDigit b ≡ true ⌝ }
     ensures { λ r. ⌜ r ≡ digitOf b ⌝ }
 {
-    if is_digit(b) {
-        return b - b'0';
-    }
-    0
+    (b - b'0') as u64
 }
 
-// The shape of the columns with one byte more.
-fn next_shape(s: Shape, b: u8) -> Shape
-    ensures { λ r. ⌜ r ≡ nextShape s b ⌝ }
+// The field where the first i columns end in digits of the number first, after a minus or not.
+fn read_digits(l: &[u8], at: usize, i: usize, n: usize, first: u64, negative: bool) -> Field
+    requires { ⌜ (at + n ≤ length (now l)) × (n ≤ 15) × (i ≤ n) ⌝ }
+    requires { ⌜ (shapeOf (now l) at i ≡ cond negative Signed Digits) × (first ≡ digitsOf (now l) at i) ⌝ }
+    ensures { λ r. ⌜ r ≡ fieldOf (now (l .entry)) at n ⌝ }
 {
-    match s {
-        Shape::Spaces => first_shape(b),
-        Shape::Zero => Shape::Wrong,
-        Shape::Digits => {
-            if is_digit(b) {
-                return Shape::Digits;
-            }
-            Shape::Wrong
+    let mut v = first;
+    let mut j = i;
+    while j < n {
+        let b = l[at + j];
+        if is_digit(b) {
+            v = v * 10 + digit(b);
+            j += 1;
+        } else {
+            return Field::Misshapen;
         }
-        Shape::Sign => {
-            if b == b'0' {
-                return Shape::Wrong;
-            }
-            if is_digit(b) {
-                return Shape::Signed;
-            }
-            Shape::Wrong
-        }
-        Shape::Signed => {
-            if is_digit(b) {
-                return Shape::Signed;
-            }
-            Shape::Wrong
-        }
-        Shape::Wrong => Shape::Wrong,
     }
+    if negative {
+        return Field::Negative(v);
+    }
+    Field::Number(v)
 }
 
-// The shape of a byte after spaces.
-fn first_shape(b: u8) -> Shape
-    ensures { λ r. ⌜ r ≡ nextShape Spaces b ⌝ }
+// The field where column i, counted from 0, is the first after the minus.
+fn read_negative(l: &[u8], at: usize, i: usize, n: usize) -> Field
+    requires { ⌜ (at + n ≤ length (now l)) × (n ≤ 15) × (i ≤ n) ⌝ }
+    requires { ⌜ (shapeOf (now l) at i ≡ Sign) × (digitsOf (now l) at i ≡ 0) ⌝ }
+    ensures { λ r. ⌜ r ≡ fieldOf (now (l .entry)) at n ⌝ }
 {
-    if b == b' ' {
-        return Shape::Spaces;
+    if i == n {
+        return Field::Misshapen;
+    }
+    let b = l[at + i];
+    if is_leading(b) {
+        return read_digits(l, at, i + 1, n, digit(b), true);
+    }
+    Field::Misshapen
+}
+
+// The field where column i is the first that is no space.
+fn read_filled(l: &[u8], at: usize, i: usize, n: usize) -> Field
+    requires { ⌜ (at + n ≤ length (now l)) × (n ≤ 15) × (i < n) ⌝ }
+    requires { ⌜ (shapeOf (now l) at i ≡ Spaces) × (digitsOf (now l) at i ≡ 0) × (eqb (getD (now l) (at + i) 0) space ≡ false) ⌝ }
+    ensures { λ r. ⌜ r ≡ fieldOf (now (l .entry)) at n ⌝ }
+{
+    let b = l[at + i];
+    let next = i + 1;
+    if is_leading(b) {
+        return read_digits(l, at, next, n, digit(b), false);
     }
     if b == b'-' {
-        return Shape::Sign;
+        return read_negative(l, at, next, n);
     }
     if b == b'0' {
-        return Shape::Zero;
+        if next == n {
+            return Field::Number(0);
+        }
+        return Field::Misshapen;
     }
-    if is_digit(b) {
-        return Shape::Digits;
-    }
-    Shape::Wrong
+    Field::Misshapen
 }
 
-// One byte more. At most fourteen digits came before, so the number stays far below 64 bits.
-fn next(g: Gathered, b: u8) -> Gathered
-    requires { ⌜ g .digits < 10 ^ 14 ⌝ }
-    ensures { λ r. ⌜ (r .shape ≡ nextShape (g .shape) b) × (r .digits ≡ g .digits * 10 + digitOf b) ⌝ }
+// The first of n columns that is no space, or n.
+fn skip_spaces(l: &[u8], at: usize, n: usize) -> usize
+    requires { ⌜ at + n ≤ length (now l) ⌝ }
+    ensures { λ r. ⌜ (r ≤ n) × (shapeOf (now (l .entry)) at r ≡ Spaces) × (digitsOf (now (l .entry)) at r ≡ 0) ⌝ }
+    ensures { λ r. ⌜ (r < n → eqb (getD (now (l .entry)) (at + r) 0) space ≡ false) ⌝ }
 {
-    let d = digit(b);
-    let s = g.shape;
-    Gathered {
-        shape: next_shape(s, b),
-        digits: g.digits * 10 + d as u64,
+    let mut i = 0;
+    while i < n {
+        if l[at + i] != b' ' {
+            return i;
+        }
+        i += 1;
     }
+    i
 }
 
-// The field of a shape and a number.
-fn field_from(s: Shape, v: u64) -> Field
-    ensures { λ r. ⌜ r ≡ fieldFrom s v ⌝ }
+// Four columns, as most fields have, that are all spaces.
+fn is_blank_four(l: &[u8], at: usize, n: usize) -> bool
+    requires { ⌜ at + n ≤ length (now l) ⌝ }
+    ensures { λ r. ⌜ (r ≡ true → fieldOf (now (l .entry)) at n ≡ Blank) ⌝ }
 {
-    match s {
-        Shape::Spaces => Field::Blank,
-        Shape::Zero => Field::Number(v),
-        Shape::Digits => Field::Number(v),
-        Shape::Sign => Field::Misshapen,
-        Shape::Signed => Field::Negative(v),
-        Shape::Wrong => Field::Misshapen,
+    if n == 4 {
+        return fours::same(
+            l[at],
+            l[at + 1],
+            l[at + 2],
+            l[at + 3],
+            b' ',
+            b' ',
+            b' ',
+            b' ',
+        );
     }
+    false
 }
 
 // The field that the n columns from column at on hold.
@@ -113,15 +136,22 @@ pub fn read_field(l: &[u8], at: usize, n: usize) -> Field
     requires { ⌜ (at + n ≤ length (now l)) × (n ≤ 15) ⌝ }
     ensures { λ r. ⌜ r ≡ fieldOf (now (l .entry)) at n ⌝ }
 {
-    let mut g = Gathered {
-        shape: Shape::Spaces,
-        digits: 0,
-    };
-    let mut i = 0;
-    while i < n {
-        g = next(g, l[at + i]);
-        i += 1;
+    if is_blank_four(l, at, n) {
+        return Field::Blank;
     }
-    let s = g.shape;
-    field_from(s, g.digits)
+    let i = skip_spaces(l, at, n);
+    if i == n {
+        return Field::Blank;
+    }
+    read_filled(l, at, i, n)
+}
+
+// The number of columns of field j, counted from 0.
+pub(crate) fn width(j: usize) -> usize
+    ensures { λ r. ⌜ r ≡ widthOf j ⌝ }
+{
+    if j == 5 {
+        return 15;
+    }
+    4
 }

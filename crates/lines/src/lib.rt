@@ -2,7 +2,10 @@
 mod claims;
 pub mod columns;
 pub mod fields;
+mod fours;
 mod instructions;
+mod kinds;
 pub mod line;
+mod rows;
 pub mod words;
 pub mod write;

@@ -1,6 +1,7 @@
 // A line of 40 bytes.
 use crate::claims;
 use crate::columns::read_field;
+use crate::columns::width;
 use crate::fields::judge;
 use crate::instructions;
 use crate::words::find_word;
@@ -20,11 +21,11 @@ ghost use Rattle.model.specs.Lists.{everyBelow};
 ghost use Rattle.model.specs.Text.{fieldOf};
 ghost use Rattle.model.specs.Lines.{printable, wellSpelled, columnOf, widthOf, fieldsIn, inLimits, judged, lineFrom, lineOr, lineFound, readLine};
 
-// A byte that may stand in columns 1 to 39.
+// A byte that may stand in columns 1 to 39: counted from the space on, one comparison tells both limits.
 fn is_printable(b: u8) -> bool
     ensures { λ r. ⌜ r ≡ printable b ⌝ }
 {
-    (b' ' <= b) & (b <= b'~')
+    std::num::wrapping_sub_u8(b, b' ') <= b'~' - b' '
 }
 
 // Columns 1 to 39 are printable.
@@ -47,16 +48,6 @@ fn is_well_spelled(l: &[u8]) -> bool
     ensures { λ r. ⌜ r ≡ wellSpelled (now (l .entry)) ⌝ }
 {
     all_printable(l) & (l[39] == b'\n')
-}
-
-// The number of columns of field j, counted from 0.
-fn width(j: usize) -> usize
-    ensures { λ r. ⌜ r ≡ widthOf j ⌝ }
-{
-    if j == 5 {
-        return 15;
-    }
-    4
 }
 
 // Field j, counted from 0.

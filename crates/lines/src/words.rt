@@ -1,25 +1,17 @@
 // The word that a line begins with.
+use crate::fours;
 use model::text::FoundWord;
 use model::text::Word;
 ghost use mathlib.Core.Path.{_≡_};
 ghost use lib.ListN.{length, drop};
 ghost use Rattle.model.specs.Words.{begins, words, wordAmong};
 
-// The line begins with the four bytes of t. The first byte rules out most words.
+// The line begins with the four bytes of t.
 fn begins_with(l: &[u8], t: &[u8; 4]) -> bool
     requires { ⌜ length (now l) ≡ 40 ⌝ }
     ensures { λ r. ⌜ r ≡ begins (now (l .entry)) (now (t .entry)) ⌝ }
 {
-    if l[0] == t[0] {
-        if l[1] == t[1] {
-            if l[2] == t[2] {
-                if l[3] == t[3] {
-                    return true;
-                }
-            }
-        }
-    }
-    false
+    fours::same(l[0], l[1], l[2], l[3], t[0], t[1], t[2], t[3])
 }
 
 // The word of a line. The functions below go on in the order of the words.

@@ -1,11 +1,13 @@
 // A line written: a word, six fields and the end of the line, each set in its columns.
+use crate::columns::width;
+use crate::fields::value;
 use model::text::Field;
 use model::text::Shape;
 ghost use mathlib.Core.Path.{_≡_};
 ghost use Prim.Native.Nat.{_+_, _≤_, _<_};
 ghost use lib.ListN.{length};
-ghost use Rattle.model.specs.Text.{valueIn, shapeFor, lastByte, shapeBefore, columnsSet, fieldSet};
-ghost use Rattle.model.specs.Lines.{widthOf, wordSet, fieldsSet, lineSet};
+ghost use Rattle.model.specs.Text.{shapeFor, lastByte, shapeBefore, columnsSet, fieldSet};
+ghost use Rattle.model.specs.Lines.{wordSet, fieldsSet, lineSet};
 
 // The byte of the last column.
 fn last_byte(f: Shape, v: u64) -> u8
@@ -62,18 +64,6 @@ fn set_columns(s: &mut [u8], at: usize, n: usize, f: Shape, v: u64)
     }
 }
 
-// The number of a field, without its minus.
-fn number(f: Field) -> u64
-    ensures { λ r. ⌜ r ≡ valueIn f ⌝ }
-{
-    match f {
-        Field::Blank => 0,
-        Field::Number(v) => v,
-        Field::Negative(v) => v,
-        Field::Misshapen => 0,
-    }
-}
-
 // The shape of the columns that hold a field.
 fn shape_for(f: Field) -> Shape
     ensures { λ r. ⌜ r ≡ shapeFor f ⌝ }
@@ -102,18 +92,8 @@ fn set_field(s: &mut [u8], at: usize, n: usize, f: Field)
     ensures { λ _. ⌜ now (s .exit) ≡ fieldSet (now (s .entry)) at n f ⌝ }
 {
     let g = shape_for(f);
-    let v = number(f);
+    let v = value(f);
     set_columns(s, at, n, g, v);
-}
-
-// The number of columns of field j.
-fn columns_of(j: usize) -> usize
-    ensures { λ r. ⌜ r ≡ widthOf j ⌝ }
-{
-    if j == 5 {
-        return 15;
-    }
-    4
 }
 
 // Sets the six fields.
@@ -124,7 +104,7 @@ fn set_fields(l: &mut [u8], fs: [Field; 6])
     let mut j = 0;
     while j < 6 {
         let f = fs[j];
-        let n = columns_of(j);
+        let n = width(j);
         set_field(l, 4 + j * 4, n, f);
         j += 1;
     }

@@ -1,69 +1,40 @@
--- The loop's invariant: shape and digits are those of the columns passed. Fourteen digits leave room for one more. Assumes nothing.
-use Prim.Native.Nat.{_≤_, _-_}
+-- The columns are blank, or hold something from the first that is no space. Assumes nothing.
+use Prim.Native.Nat.{_<_}
 use native.Mathlib.Omega.{arith}
-use native.Mathlib.Numerals.{add-one}
-use mathlib.Core.Path.{_≡_, refl}
+use mathlib.Core.Path.{sym}
+use Rattle.lines.proofs.Shapes.{blank}
 use borrow.Author.Needs.{needs}
-use Rattle.model.specs.Text.{shapeOf, digitsOf, fieldOf}
-use Rattle.lines.proofs.Digits.{digits-fit}
 use Rattle.lines.proofs.columns.read_field.Statement.{statement}
 use Rattle.lines.proofs.columns.read_field.Tie as tie
 
-abbrev Inv-loop : tie.InvT-loop
-Inv-loop l at n g₀ i₀ g i = (i ≤ n) × (g .shape ≡ shapeOf l at i) × (g .digits ≡ digitsOf l at i)
+is-blank-four-requires : tie.Need-is-blank-four-requires
+is-blank-four-requires c κs = search needs
 
-abbrev μ-loop : tie.MeasureT-loop
-μ-loop l at n g₀ i₀ g i = n - i
+returns : tie.Need-returns
+returns c = sym (c .before .is-blank-four .ensures (c .if1 .taken))
 
-loop-holds : tie.Need-loop-holds Inv-loop μ-loop
-unfolding shapeOf digitsOf
-loop-holds c = (omega arith, refl, refl)
+skip-spaces-requires : tie.Need-skip-spaces-requires
+skip-spaces-requires c κs = search needs
 
-add-next : tie.Need-add-next Inv-loop μ-loop
-add-next c = omega arith
+returns-2 : tie.Need-returns-2
+returns-2 c = sym (blank _ _ (c .before .skip-spaces .result) (c .before .before .before .before .before .args .n) (c .if2 .taken) (c .before .skip-spaces .ensures .0 .1))
 
-shared-slice-read-next : tie.Need-shared-slice-read-next Inv-loop μ-loop
-shared-slice-read-next c = omega arith
+read-filled-requires : tie.Need-read-filled-requires
+read-filled-requires c κs =
+    let ((r, e, z), p) = c .before .skip-spaces .ensures in
+    let h : c .before .skip-spaces .result < c .before .before .before .before .before .args .n = omega arith in
+    ((omega arith, omega arith, h), (e, z, p h))
 
-next-requires : tie.Need-next-requires Inv-loop μ-loop
-next-requires c κs =
-    let h : c .before .before .loop .i ≤ 14 = omega arith in
-    rw (c .before .before .loop .inv .2) (digits-fit 14 _ _ (c .before .before .loop .i) h)
-
-add-i : tie.Need-add-i Inv-loop μ-loop
-add-i c = omega arith
-
-loop-less : tie.Need-loop-less Inv-loop μ-loop
-loop-less c = omega arith
-
-loop-again : tie.Need-loop-again Inv-loop μ-loop
-unfolding shapeOf digitsOf
-loop-again c =
-    let (p, s, d) = c .before .before .before .loop .inv in
-    (omega arith, rw (c .next .ensures .0, s, add-one), rw (c .next .ensures .1, d, add-one))
-
-field-from-requires : tie.Need-field-from-requires Inv-loop μ-loop
-field-from-requires c κs = search needs
-
-returns : tie.Need-returns Inv-loop μ-loop
-unfolding fieldOf
-returns c =
-    let e : c .before .before .loop .i ≡ c .before .before .before .before .args .n = omega arith in
-    let (p, s, d) = c .before .before .loop .inv in
-    rw (c .field-from .ensures, s, d, e)
+returns-3 : tie.Need-returns-3
+returns-3 c = search needs
 
 pub read-field-spec : {M : Type 1} → statement M
 read-field-spec =
     tie.close
     (tie.spec
-    Inv-loop
-    μ-loop
-    loop-holds
-    add-next
-    shared-slice-read-next
-    next-requires
-    add-i
-    loop-less
-    loop-again
-    field-from-requires
-    returns)
+    is-blank-four-requires
+    returns
+    skip-spaces-requires
+    returns-2
+    read-filled-requires
+    returns-3)

@@ -1,27 +1,21 @@
--- The two tests, in the order of the definition. Assumes nothing.
+-- The greatest fault decides. Assumes nothing.
+use mathlib.Core.Path.{sym, _∙_}
 use borrow.Author.Needs.{needs}
-use Rattle.model.specs.Lines.{judged}
+use Rattle.lines.proofs.Judging.{faultless, outside-limits, out-of-shape}
 use Rattle.lines.proofs.fields.judge_known.Statement.{statement}
 use Rattle.lines.proofs.fields.judge_known.Tie as tie
 
-all-shaped-requires : tie.Need-all-shaped-requires
-all-shaped-requires c κs = search needs
-
-all-allowed-requires : tie.Need-all-allowed-requires
-all-allowed-requires c κs = search needs
+fault-in-requires : tie.Need-fault-in-requires
+fault-in-requires c κs = search needs
 
 returns : tie.Need-returns
-unfolding judged
-returns c = simp (c .if2 .taken, ← c .before .before .all-allowed .ensures, c .before .if1 .taken, ← c .before .before .before .all-shaped .ensures)
+returns c = sym (faultless _ _ _ (sym (c .before .fault-in .ensures) ∙ c .if1 .taken))
 
 returns-2 : tie.Need-returns-2
-unfolding judged
-returns-2 c = simp (c .if2 .left, ← c .before .before .all-allowed .ensures, c .before .if1 .taken, ← c .before .before .before .all-shaped .ensures)
+returns-2 c = sym (outside-limits _ _ _ (sym (c .before .before .fault-in .ensures) ∙ c .if2 .taken))
 
 returns-3 : tie.Need-returns-3
-unfolding judged
-returns-3 c = simp (c .if1 .left, ← c .before .before .all-shaped .ensures)
+returns-3 c = sym (out-of-shape _ _ _ (λ e. c .before .if1 .left (c .before .before .fault-in .ensures ∙ e)) (λ e. c .if2 .left (c .before .before .fault-in .ensures ∙ e)))
 
 pub judge-known-spec : {M : Type 1} → statement M
-judge-known-spec =
-    tie.close (tie.spec all-shaped-requires all-allowed-requires returns returns-2 returns-3)
+judge-known-spec = tie.close (tie.spec fault-in-requires returns returns-2 returns-3)

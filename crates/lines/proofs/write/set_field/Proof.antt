@@ -6,8 +6,8 @@ use Rattle.lines.proofs.write.set_field.Tie as tie
 shape-for-requires : tie.Need-shape-for-requires
 shape-for-requires c κs = search needs
 
-number-requires : tie.Need-number-requires
-number-requires c κs = search needs
+value-requires : tie.Need-value-requires
+value-requires c κs = search needs
 
 set-columns-requires : tie.Need-set-columns-requires
 set-columns-requires c κs = search needs
@@ -17,9 +17,9 @@ same-length c = search needs
 
 returns : tie.Need-returns
 unfolding fieldSet
-returns c = rw (c .before .before .set-columns .ensures, c .before .before .before .before .number .ensures, c .before .before .before .before .before .shape-for .ensures)
+returns c = rw (c .before .before .set-columns .ensures, c .before .before .before .before .value .ensures, c .before .before .before .before .before .shape-for .ensures)
 
 pub set-field-spec : {M : Type 1} → statement M
 set-field-spec =
     tie.close
-    (tie.spec shape-for-requires number-requires set-columns-requires same-length returns)
+    (tie.spec shape-for-requires value-requires set-columns-requires same-length returns)

@@ -24,8 +24,8 @@ mul-f c = omega arith
 array-copy-out-f : tie.Need-array-copy-out-f Inv-loop μ-loop
 array-copy-out-f c = search needs
 
-columns-of-requires : tie.Need-columns-of-requires Inv-loop μ-loop
-columns-of-requires c κs = search needs
+width-requires : tie.Need-width-requires Inv-loop μ-loop
+width-requires c κs = search needs
 
 mul-set-field : tie.Need-mul-set-field Inv-loop μ-loop
 mul-set-field c = omega arith
@@ -34,7 +34,7 @@ add-set-field : tie.Need-add-set-field Inv-loop μ-loop
 add-set-field c = omega arith
 
 set-field-requires : tie.Need-set-field-requires Inv-loop μ-loop
-set-field-requires c κs = rw (c .before .columns-of .ensures) (let h = width-fits (c .before .before .before .before .loop .j) (c .before .before .before .loop-test .taken) in omega arith)
+set-field-requires c κs = rw (c .before .width .ensures) (let h = width-fits (c .before .before .before .before .loop .j) (c .before .before .before .loop-test .taken) in omega arith)
 
 add-j : tie.Need-add-j Inv-loop μ-loop
 add-j c = omega arith
@@ -43,7 +43,7 @@ loop-less : tie.Need-loop-less Inv-loop μ-loop
 loop-less c = omega arith
 
 loop-again : tie.Need-loop-again Inv-loop μ-loop
-loop-again c = (omega arith, c .before .before .set-field .kept .0 ∙ c .before .before .before .before .before .before .before .loop .inv .1, rw (c .before .before .set-field .ensures, c .before .before .before .before .columns-of .ensures, c .before .before .before .before .before .before .before .loop .inv .2, add-one))
+loop-again c = (omega arith, c .before .before .set-field .kept .0 ∙ c .before .before .before .before .before .before .before .loop .inv .1, rw (c .before .before .set-field .ensures, c .before .before .before .before .width .ensures, c .before .before .before .before .before .before .before .loop .inv .2, add-one))
 
 same-length : tie.Need-same-length Inv-loop μ-loop
 same-length c = omega arith
@@ -60,7 +60,7 @@ set-fields-spec =
     loop-holds
     mul-f
     array-copy-out-f
-    columns-of-requires
+    width-requires
     mul-set-field
     add-set-field
     set-field-requires
