@@ -1,0 +1,226 @@
+// The line that a row holds.
+use crate::kinds::ADDW;
+use crate::kinds::BLTU;
+use crate::kinds::COPY;
+use crate::kinds::DIVF;
+use crate::kinds::JUMP;
+use crate::kinds::LEAS;
+use crate::kinds::LOAD;
+use crate::kinds::MOST;
+use crate::kinds::MULW;
+use crate::kinds::REFUSED;
+use crate::kinds::SETC;
+use crate::kinds::STOP;
+use crate::kinds::STOR;
+use crate::kinds::STRP;
+use crate::kinds::SUBW;
+use crate::rows::Row;
+use crate::rows::row_at;
+use model::answers::Refusal;
+use model::claims::Claim;
+use model::claims::Line;
+use model::claims::Stripe;
+use model::machine::Instruction;
+use model::machine::Operand;
+use model::machine::Table;
+use model::machine::Width;
+ghost use mathlib.Core.Path.{_≡_};
+ghost use Prim.Native.Nat.{_+_, _*_, _%_, _≤_};
+ghost use lib.ListN.{length};
+ghost use Rattle.model.specs.Lines.{widthFrom, tableFrom};
+ghost use Rattle.decoded.specs.Rows.{rowAt};
+ghost use Rattle.decoded.specs.Decoded.{operandIn, branchFrom, accessFrom, arithmeticFrom, instructionFrom, stripeFrom, lineFrom};
+
+// The low 32 bits: every number that a register can hold is kept whole.
+fn word(n: u64) -> u32
+    ensures { λ r. ⌜ r ≡ n % 4294967296 ⌝ }
+{
+    (n % 4294967296) as u32
+}
+
+// The low 8 bits.
+fn byte(n: u64) -> u8
+    ensures { λ r. ⌜ r ≡ n % 256 ⌝ }
+{
+    (n % 256) as u8
+}
+
+fn width_from(n: u64) -> Width
+    ensures { λ r. ⌜ r ≡ widthFrom n ⌝ }
+{
+    if n == 1 {
+        return Width::One;
+    }
+    if n == 2 {
+        return Width::Two;
+    }
+    Width::Four
+}
+
+fn table_from(n: u64) -> Table
+    ensures { λ r. ⌜ r ≡ tableFrom n ⌝ }
+{
+    if n == 0 {
+        return Table::Trays;
+    }
+    Table::Results
+}
+
+// The operand of a choice and a number.
+fn operand_in(chosen: u64, n: u64) -> Operand
+    ensures { λ r. ⌜ r ≡ operandIn chosen n ⌝ }
+{
+    if chosen == 0 {
+        return Operand::Variable(n as usize);
+    }
+    Operand::Number(word(n))
+}
+
+// The instruction of a row, from JUMP on.
+fn branch_from(r: Row) -> Instruction
+    ensures { λ x. ⌜ x ≡ branchFrom r ⌝ }
+{
+    if r.kind == JUMP {
+        return Instruction::Jump {
+            t: r.first as usize,
+        };
+    }
+    let i = r.first as usize;
+    let t = r.second as usize;
+    let o = operand_in(r.third, r.fourth);
+    if r.kind == BLTU {
+        return Instruction::Bltu { i, t, o };
+    }
+    Instruction::Bequ { i, t, o }
+}
+
+// The instruction of a row, from LOAD on.
+fn access_from(r: Row) -> Instruction
+    ensures { λ x. ⌜ x ≡ accessFrom r ⌝ }
+{
+    let first = r.first as usize;
+    let w = width_from(r.second);
+    let table = table_from(r.third);
+    let a = r.fourth as usize;
+    let i = r.fifth as usize;
+    let k = r.sixth as usize;
+    if r.kind == LOAD {
+        return Instruction::Load {
+            d: first,
+            w,
+            table,
+            a,
+            i,
+            k,
+        };
+    }
+    if r.kind == STOR {
+        return Instruction::Stor {
+            v: first,
+            w,
+            a,
+            i,
+            k,
+        };
+    }
+    branch_from(r)
+}
+
+// The instruction of a row, from ADDW on.
+fn arithmetic_from(r: Row) -> Instruction
+    ensures { λ x. ⌜ x ≡ arithmeticFrom r ⌝ }
+{
+    let d = r.first as usize;
+    let i = r.second as usize;
+    let o = operand_in(r.third, r.fourth);
+    if r.kind == ADDW {
+        return Instruction::Addw { d, i, o };
+    }
+    if r.kind == SUBW {
+        return Instruction::Subw { d, i, o };
+    }
+    if r.kind == MULW {
+        return Instruction::Mulw { d, i, o };
+    }
+    if r.kind == DIVF {
+        return Instruction::Divf { d, i, o };
+    }
+    access_from(r)
+}
+
+// The instruction of a row.
+pub fn instruction_from(r: Row) -> Instruction
+    ensures { λ x. ⌜ x ≡ instructionFrom r ⌝ }
+{
+    if r.kind == STOP {
+        return Instruction::Stop;
+    }
+    if r.kind == SETC {
+        return Instruction::Setc {
+            d: r.first as usize,
+            c: word(r.second),
+        };
+    }
+    if r.kind == COPY {
+        return Instruction::Copy {
+            d: r.first as usize,
+            i: r.second as usize,
+        };
+    }
+    arithmetic_from(r)
+}
+
+// The stripe of a row.
+fn stripe_from(r: Row) -> Stripe
+    ensures { λ x. ⌜ x ≡ stripeFrom r ⌝ }
+{
+    Stripe {
+        x: byte(r.first),
+        a: byte(r.second),
+        y: byte(r.third),
+        z: byte(r.fourth),
+        plus: r.fifth,
+        minus: r.sixth,
+    }
+}
+
+// The line of a row.
+pub fn line_from(r: Row) -> Line
+    ensures { λ x. ⌜ x ≡ lineFrom r ⌝ }
+{
+    if r.kind == STRP {
+        return Line::Claim(Claim::Strp(stripe_from(r)));
+    }
+    if r.kind == LEAS {
+        return Line::Claim(Claim::Leas {
+            v: r.first as usize,
+            least: r.second,
+        });
+    }
+    if r.kind == MOST {
+        return Line::Claim(Claim::Most {
+            v: r.first as usize,
+            most: r.second,
+        });
+    }
+    if r.kind == REFUSED {
+        return Line::Refused(Refusal::ListingLength);
+    }
+    Line::Instruction(instruction_from(r))
+}
+
+// The line that the k-th row holds.
+pub fn line_at(rows: &[u64], k: usize) -> Line
+    requires { ⌜ k * 8 + 8 ≤ length (now rows) ⌝ }
+    ensures { λ r. ⌜ r ≡ lineFrom (rowAt (now (rows .entry)) k) ⌝ }
+{
+    line_from(row_at(rows, k))
+}
+
+// The instruction that the k-th row holds.
+pub fn instruction_at(rows: &[u64], k: usize) -> Instruction
+    requires { ⌜ k * 8 + 8 ≤ length (now rows) ⌝ }
+    ensures { λ r. ⌜ r ≡ instructionFrom (rowAt (now (rows .entry)) k) ⌝ }
+{
+    instruction_from(row_at(rows, k))
+}
