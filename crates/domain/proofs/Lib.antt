@@ -1,5 +1,6 @@
 -- Laws that belong to no one function.
-pub mod Bounded
-pub mod Keep
-pub mod Along
-pub mod Possible
+pub mod Held
+pub mod Points
+pub mod Extending
+pub mod Transfers
+pub mod Edges

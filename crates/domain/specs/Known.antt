@@ -1,39 +1,36 @@
--- What the code's facts stand for, and the bounds within which its 64-bit arithmetic is exact.
--- An array of stripes has ten places: eight for the claims of a point and two for what a step adds. All ten are bounded, also those past the count.
+-- What the arrays of numbers know, and the bounds within which their 64-bit arithmetic is exact.
+-- Ten rows stand for stripes: eight for the claims of a point and two for what a step adds.
 use mathlib.Core.Path.{_≡_}
-use mathlib.Core.List.{List}
-use Prim.Native.Nat.{ℕ, _≤_}
-use lib.ListN.{length, getD, take}
+use mathlib.Core.List.{List, [], _∷_, _++_}
+use Prim.Native.Nat.{ℕ, zero, suc, _*_, _≤_, _<_}
+use lib.ListN.{length}
 use Rattle.model.specs.declared.claims.Range.{Range}
 use Rattle.model.specs.declared.claims.Stripe.{Stripe}
 use Rattle.model.specs.Limits.{variables, MAX, greatestBound, greatestStripes}
-use Rattle.model.specs.Facts.{Facts, rangeOf, hi}
-use Rattle.domain.specs.declared.Facts as code
+use Rattle.model.specs.Facts.{Facts, between, hi}
+use Rattle.goals.specs.Sizes.{Numbers, stripesAlong}
+use Rattle.goals.specs.Ends.{SizedEnds}
+use Rattle.goals.specs.Rows.{SizedRows, stripeAt}
 
--- what a value of the code knows
-abbrev pub known : code.Facts → Facts
-known f = record { ranges = f .ranges; stripes = take (f .count) (f .stripes) }
+-- the ranges whose low and high ends two lists hold
+unfoldable pub rangesOf : List ℕ → List ℕ → List Range
+rangesOf [] hs = []
+rangesOf (l ∷ ls) [] = []
+rangesOf (l ∷ ls) (h ∷ hs) = between l h ∷ rangesOf ls hs
 
--- the places for stripes
-abbrev pub places : ℕ
-places = 10
+-- the first n rows as stripes, in order
+unfoldable pub stripesOf : List ℕ → ℕ → List Stripe
+stripesOf rows zero = []
+stripesOf rows (suc n) = stripesOf rows n ++ (stripeAt rows n ∷ [])
 
--- the greatest part of a bound along an edge
-abbrev pub greatestAlong : ℕ
-greatestAlong = 17592186044416
-
--- what stands past the end of an array of stripes
-abbrev pub noStripe : Stripe
-noStripe = record { x = 0; a = 0; y = 0; z = 0; plus = 0; minus = 0 }
+-- what the arrays know
+abbrev pub known : List ℕ → List ℕ → List ℕ → ℕ → Facts
+known low high rows n = record { ranges = rangesOf low high; stripes = stripesOf rows n }
 
 -- both ends are values of a register
 pub record Word (r : Range) : Type 0 where
   pub low : r .lo ≤ MAX
   pub high : r .hi ≤ MAX
-
--- both ends of every range are values of a register
-abbrev pub Words : List Range → Type 0
-Words rs = (v : ℕ) → Word (rangeOf rs v)
 
 -- every high end is a value of a register
 abbrev pub High : List Range → Type 0
@@ -44,22 +41,32 @@ pub record Small (k : ℕ) (s : Stripe) : Type 0 where
   pub plus : s .plus ≤ k
   pub minus : s .minus ≤ k
 
--- so for every stripe
-abbrev pub Within : ℕ → List Stripe → Type 0
-Within k ss = (i : ℕ) → Small k (getD ss i noStripe)
+-- variables and scale are bytes
+pub record Bytes (s : Stripe) : Type 0 where
+  pub x : s .x < 256
+  pub a : s .a < 256
+  pub y : s .y < 256
+  pub z : s .z < 256
 
--- facts of a point
-pub record AtPoint (f : code.Facts) : Type 0 where
-  pub ranges : length (f .ranges) ≡ variables
-  pub stripes : length (f .stripes) ≡ places
-  pub few : f .count ≤ greatestStripes
-  pub words : Words (f .ranges)
-  pub bounds : Within greatestBound (f .stripes)
+-- the ends of a point's ranges: values of a register
+pub record Ends (low high : List ℕ) : Type 0 where
+  pub lows : SizedEnds low
+  pub highs : SizedEnds high
 
--- facts along an edge
-pub record AlongEdge (f : code.Facts) : Type 0 where
-  pub ranges : length (f .ranges) ≡ variables
-  pub stripes : length (f .stripes) ≡ places
-  pub few : f .count ≤ places
-  pub high : High (f .ranges)
-  pub bounds : Within greatestAlong (f .stripes)
+-- the rows of a point: the first n stand, and all ten are bounded
+pub record Standing (rows : List ℕ) (n : ℕ) : Type 0 where
+  pub few : n ≤ greatestStripes
+  pub parts : Numbers (stripesAlong * 6) greatestBound rows
+  pub bytes : (i : ℕ) → i < n → Bytes (stripeAt rows i)
+
+-- the arrays of a point
+pub record AtPoint (low high rows : List ℕ) (n : ℕ) : Type 0 where
+  pub ends : Ends low high
+  pub stripes : Standing rows n
+
+-- the arrays along an edge; a low end may lie above every value of a register, where the range is empty
+pub record AlongEdge (low high rows : List ℕ) (n : ℕ) : Type 0 where
+  pub lows : length low ≡ variables
+  pub highs : SizedEnds high
+  pub stripes : SizedRows rows
+  pub few : n ≤ stripesAlong

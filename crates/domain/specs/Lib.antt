@@ -1,3 +1,4 @@
 pub mod Known
-pub mod Holding
+pub mod Changes
+pub mod Plans
 pub mod Branches

@@ -1,14 +1,15 @@
-// What is known at a point and along an edge.
+// What is known at a point and along an edge, in lent arrays of numbers: the low and the high end of each range, and rows of six numbers for the stripes.
 // A range that holds nothing may have a low end above every value of a register, so ends are 64-bit numbers and are never cut.
 mod ranges;
 mod stripes;
 
-use crate::ranges::non_empty;
-use crate::ranges::ranges_along;
-use crate::stripes::stripes_along;
+use crate::ranges::changes_along;
+use crate::ranges::write_ranges;
+use crate::stripes::carry_out;
+use crate::stripes::plan_along;
+use goals::rows::write_row;
 use model::claims::Claim;
 use model::claims::Range;
-use model::claims::Stripe;
 use model::machine::Edge;
 use model::machine::Instruction;
 ghost use mathlib.Core.Path.{_≡_};
@@ -17,100 +18,93 @@ ghost use Prim.Native.Nat.{_+_, _≤_};
 ghost use lib.ListN.{length};
 ghost use Rattle.model.specs.Limits.{variables, greatestStripes};
 ghost use Rattle.model.specs.Facts as Model;
-ghost use Rattle.model.specs.Facts.{withClaim};
+ghost use Rattle.model.specs.Facts.{withClaim, nonEmpty};
 ghost use Rattle.model.specs.Listing.{stripesAmong};
-ghost use Rattle.model.specs.Transfer.{factsAlong, possible};
+ghost use Rattle.model.specs.Transfer.{factsAlong};
 ghost use Rattle.model.proofs.Limits.{ClaimLimited, Limited};
-ghost use Rattle.domain.specs.Known.{known, AtPoint, AlongEdge};
+ghost use Rattle.goals.specs.Rows.{SizedRows};
+ghost use Rattle.domain.specs.Known.{rangesOf, known, Ends, AtPoint, AlongEdge};
 
-// The range of each variable, and the first count stripes.
-pub struct Facts {
-    pub ranges: [Range; 18],
-    pub stripes: [Stripe; 10],
-    pub count: usize,
-}
-
-// Nothing claimed.
-pub fn unclaimed() -> Facts
-    ensures { λ r. ⌜ known r ≡ Model.unclaimed ⌝ }
-    ensures { λ r. ⌜ AtPoint r ⌝ }
-    ensures { λ r. ⌜ r .count ≡ 0 ⌝ }
+// Writes the ranges of a point that claims nothing.
+pub fn unclaimed<'a>(low: &'a mut [u64; 18], high: &'a mut [u64; 18])
+    ensures { λ r. ⌜ rangesOf (now (low .exit)) (now (high .exit)) ≡ Model.unclaimed .ranges ⌝ }
+    ensures { λ r. ⌜ Ends (now (low .exit)) (now (high .exit)) ⌝ }
 {
-    let mut ranges = [Range::REGISTER; 18];
-    ranges[16] = Range::SIZE;
-    ranges[17] = Range::SIZE;
-    let none = Stripe {
-        x: 0,
-        a: 0,
-        y: 0,
-        z: 0,
-        plus: 0,
-        minus: 0,
-    };
-    Facts {
-        ranges,
-        stripes: [none; 10],
-        count: 0,
-    }
+    let r = Range::REGISTER;
+    let s = Range::SIZE;
+    *low = [r.lo; 18];
+    *high = [r.hi; 18];
+    low[16] = s.lo;
+    low[17] = s.lo;
+    high[16] = s.hi;
+    high[17] = s.hi;
 }
 
-// One claim more.
-pub fn with_claim(f: Facts, c: Claim) -> Facts
-    requires { ⌜ AtPoint f ⌝ }
+// One claim more: a new end, or a stripe after the first n rows. The answer is how many rows there are then.
+pub fn with_claim<'a>(
+    low: &'a mut [u64; 18],
+    high: &'a mut [u64; 18],
+    rows: &'a mut [u64; 60],
+    n: usize,
+    c: Claim,
+) -> usize
+    requires { ⌜ AtPoint (now low) (now high) (now rows) n ⌝ }
     requires { ⌜ ClaimLimited c ⌝ }
-    requires { ⌜ f .count + stripesAmong (c ∷ []) ≤ greatestStripes ⌝ }
-    ensures { λ r. ⌜ known r ≡ withClaim (known f) c ⌝ }
-    ensures { λ r. ⌜ AtPoint r ⌝ }
-    ensures { λ r. ⌜ r .count ≡ f .count + stripesAmong (c ∷ []) ⌝ }
+    requires { ⌜ n + stripesAmong (c ∷ []) ≤ greatestStripes ⌝ }
+    ensures { λ r. ⌜ known (now (low .exit)) (now (high .exit)) (now (rows .exit)) r ≡ withClaim (known (now (low .entry)) (now (high .entry)) (now (rows .entry)) n) c ⌝ }
+    ensures { λ r. ⌜ AtPoint (now (low .exit)) (now (high .exit)) (now (rows .exit)) r ⌝ }
+    ensures { λ r. ⌜ r ≡ n + stripesAmong (c ∷ []) ⌝ }
 {
-    let mut out = f;
     match c {
         Claim::Leas { v, least } => {
-            let old = f.ranges[v];
-            out.ranges[v] = Range {
-                lo: least,
-                hi: old.hi,
-            };
+            low[v] = least;
+            n
         }
         Claim::Most { v, most } => {
-            let old = f.ranges[v];
-            out.ranges[v] = Range {
-                lo: old.lo,
-                hi: most,
-            };
+            high[v] = most;
+            n
         }
         Claim::Strp(s) => {
-            out.stripes[f.count] = s;
-            out.count = f.count + 1;
+            write_row(rows, n, s);
+            n + 1
         }
     }
-    out
 }
 
-// What is known along an edge of an instruction, from what is known at its point.
-pub fn facts_along(e: Edge, i: Instruction, f: Facts) -> Facts
-    requires { ⌜ AtPoint f ⌝ }
+// Writes what is known along an edge of an instruction, from what is known at its point. The answer is how many rows there are.
+pub fn along<'a>(
+    e: Edge,
+    i: Instruction,
+    low: &'a [u64; 18],
+    high: &'a [u64; 18],
+    rows: &'a [u64; 60],
+    n: usize,
+    edge_low: &'a mut [u64; 18],
+    edge_high: &'a mut [u64; 18],
+    edge_rows: &'a mut [u64; 60],
+) -> usize
+    requires { ⌜ AtPoint (now low) (now high) (now rows) n ⌝ }
     requires { ⌜ Limited i ⌝ }
-    ensures { λ r. ⌜ known r ≡ factsAlong e i (known f) ⌝ }
-    ensures { λ r. ⌜ AlongEdge r ⌝ }
+    requires { ⌜ SizedRows (now «edge_rows») ⌝ }
+    ensures { λ r. ⌜ known (now («edge_low» .exit)) (now («edge_high» .exit)) (now («edge_rows» .exit)) r ≡ factsAlong e i (known (now (low .entry)) (now (high .entry)) (now (rows .entry)) n) ⌝ }
+    ensures { λ r. ⌜ AlongEdge (now («edge_low» .exit)) (now («edge_high» .exit)) (now («edge_rows» .exit)) r ⌝ }
 {
-    let before = f.ranges;
-    let stripes = f.stripes;
-    let ranges = ranges_along(e, i, before);
-    let s = stripes_along(e, i, before, stripes, f.count);
-    let rows = s.rows;
-    Facts {
-        ranges,
-        stripes: rows,
-        count: s.count,
-    }
+    let c = changes_along(e, i, low, high);
+    let p = plan_along(e, i, low, high);
+    write_ranges(c, low, high, edge_low, edge_high);
+    carry_out(p, rows, n, edge_rows)
 }
 
-// Whether the edge is possible: no range along it is empty.
-pub fn is_possible(f: Facts) -> bool
-    requires { ⌜ length (f .ranges) ≡ variables ⌝ }
-    ensures { λ r. ⌜ r ≡ possible (known f) ⌝ }
+// Whether no range is empty; along an edge, whether it is possible.
+pub fn is_possible<'a>(low: &'a [u64; 18], high: &'a [u64; 18]) -> bool
+    requires { ⌜ (length (now low) ≡ variables) × (length (now high) ≡ variables) ⌝ }
+    ensures { λ r. ⌜ r ≡ nonEmpty (rangesOf (now (low .entry)) (now (high .entry))) ⌝ }
 {
-    let ranges = f.ranges;
-    non_empty(ranges)
+    let mut every = true;
+    let mut v = 0;
+    while v < 18 {
+        every = every & (low[v] <= high[v]);
+        v += 1;
+    }
+    every
 }

@@ -1,4 +1,4 @@
-// The ranges along an edge, a function for each rule.
+// What an edge does to the ranges, a function for each rule.
 use model::claims::Range;
 use model::machine::Edge;
 use model::machine::Instruction;
@@ -7,15 +7,18 @@ use model::machine::Width;
 ghost use mathlib.Core.Path.{_≡_};
 ghost use mathlib.Core.Bool.{cond};
 ghost use Prim.Native.Nat.{_+_, _-_, _^_, _<_, _≤_, min, max};
-ghost use lib.ListN.{set};
+ghost use mathlib.Core.List.{List};
+ghost use lib.ListN.{length, set};
 ghost use lib.Dec.{eqb};
 ghost use Rattle.model.specs.Limits.{variables, MAX};
-ghost use Rattle.model.specs.Facts.{between, registerRange, rangeOf, nonEmpty};
+ghost use Rattle.model.specs.declared.claims.Range.{Range};
+ghost use Rattle.model.specs.Facts.{between, registerRange, rangeOf};
 ghost use Rattle.model.specs.Machine.{bytesOf};
 ghost use Rattle.model.specs.Transfer as Model;
 ghost use Rattle.model.specs.Transfer.{operandRange, sumFits, sumRange, differenceFits, differenceRange, productFits, productRange, quotientRange, atLeast, atMost, lessRanges, notLessRanges, equalRanges, unequalRanges, rangesAlong};
-ghost use Rattle.model.proofs.Limits.{OperandLimited, ArithmeticLimited, Limited};
-ghost use Rattle.domain.specs.Known.{Word, Words};
+ghost use Rattle.model.proofs.Limits.{OperandLimited, Limited};
+ghost use Rattle.domain.specs.Known.{rangesOf, Word, Ends};
+ghost use Rattle.domain.specs.Changes.{Makes, sumAt, differenceAt, productAt, quotientAt};
 ghost use Rattle.domain.specs.Branches.{orderedRanges, matchedRanges};
 
 // The smaller of two numbers.
@@ -32,15 +35,34 @@ fn larger(a: u64, b: u64) -> u64
     if a < b { b } else { a }
 }
 
+// At most two changes of ranges: the range of v becomes r, then that of u becomes q.
+pub struct Changes {
+    pub v: usize,
+    pub r: Range,
+    pub u: usize,
+    pub q: Range,
+}
+
+// The range of a variable.
+pub fn range_at<'a>(low: &'a [u64; 18], high: &'a [u64; 18], v: usize) -> Range
+    requires { ⌜ Ends (now low) (now high) ⌝ }
+    requires { ⌜ v < variables ⌝ }
+    ensures { λ r. ⌜ (r ≡ rangeOf (rangesOf (now (low .entry)) (now (high .entry))) v) × Word r ⌝ }
+{
+    Range {
+        lo: low[v],
+        hi: high[v],
+    }
+}
+
 // The range of an operand.
-pub fn operand_range(ranges: [Range; 18], o: Operand) -> Range
-    requires { ⌜ Words ranges ⌝ }
+pub fn operand_range<'a>(low: &'a [u64; 18], high: &'a [u64; 18], o: Operand) -> Range
+    requires { ⌜ Ends (now low) (now high) ⌝ }
     requires { ⌜ OperandLimited o ⌝ }
-    ensures { λ r. ⌜ r ≡ operandRange ranges o ⌝ }
-    ensures { λ r. ⌜ Word r ⌝ }
+    ensures { λ r. ⌜ (r ≡ operandRange (rangesOf (now (low .entry)) (now (high .entry))) o) × Word r ⌝ }
 {
     match o {
-        Operand::Variable(v) => ranges[v],
+        Operand::Variable(v) => range_at(low, high, v),
         Operand::Number(c) => Range::exactly(c as u64),
     }
 }
@@ -216,170 +238,203 @@ fn without(c: u64, r: Range) -> Range
     Range { lo, hi }
 }
 
-// The ranges after ADDW.
-fn sum_ranges(ranges: [Range; 18], d: usize, i: usize, o: Operand) -> [Range; 18]
-    requires { ⌜ Words ranges ⌝ }
-    requires { ⌜ ArithmeticLimited d i o ⌝ }
-    ensures { λ s. ⌜ s ≡ set ranges d (cond (sumFits (rangeOf ranges i) (operandRange ranges o)) (sumRange (rangeOf ranges i) (operandRange ranges o)) registerRange) ⌝ }
+// The range that ADDW gives.
+fn sum_at<'a>(low: &'a [u64; 18], high: &'a [u64; 18], i: usize, o: Operand) -> Range
+    requires { ⌜ Ends (now low) (now high) ⌝ }
+    requires { ⌜ (i < variables) × OperandLimited o ⌝ }
+    ensures { λ s. ⌜ s ≡ sumAt (rangesOf (now (low .entry)) (now (high .entry))) i o ⌝ }
 {
-    let mut out = ranges;
-    out[d] = sum(ranges[i], operand_range(ranges, o));
-    out
+    sum(range_at(low, high, i), operand_range(low, high, o))
 }
 
-// The ranges after SUBW.
-fn difference_ranges(ranges: [Range; 18], d: usize, i: usize, o: Operand) -> [Range; 18]
-    requires { ⌜ Words ranges ⌝ }
-    requires { ⌜ ArithmeticLimited d i o ⌝ }
-    ensures { λ s. ⌜ s ≡ set ranges d (cond (differenceFits (rangeOf ranges i) (operandRange ranges o)) (differenceRange (rangeOf ranges i) (operandRange ranges o)) registerRange) ⌝ }
+// The range that SUBW gives.
+fn difference_at<'a>(low: &'a [u64; 18], high: &'a [u64; 18], i: usize, o: Operand) -> Range
+    requires { ⌜ Ends (now low) (now high) ⌝ }
+    requires { ⌜ (i < variables) × OperandLimited o ⌝ }
+    ensures { λ s. ⌜ s ≡ differenceAt (rangesOf (now (low .entry)) (now (high .entry))) i o ⌝ }
 {
-    let mut out = ranges;
-    out[d] = difference(ranges[i], operand_range(ranges, o));
-    out
+    difference(range_at(low, high, i), operand_range(low, high, o))
 }
 
-// The ranges after MULW.
-fn product_ranges(ranges: [Range; 18], d: usize, i: usize, o: Operand) -> [Range; 18]
-    requires { ⌜ Words ranges ⌝ }
-    requires { ⌜ ArithmeticLimited d i o ⌝ }
-    ensures { λ s. ⌜ s ≡ set ranges d (cond (productFits (rangeOf ranges i) (operandRange ranges o)) (productRange (rangeOf ranges i) (operandRange ranges o)) registerRange) ⌝ }
+// The range that MULW gives.
+fn product_at<'a>(low: &'a [u64; 18], high: &'a [u64; 18], i: usize, o: Operand) -> Range
+    requires { ⌜ Ends (now low) (now high) ⌝ }
+    requires { ⌜ (i < variables) × OperandLimited o ⌝ }
+    ensures { λ s. ⌜ s ≡ productAt (rangesOf (now (low .entry)) (now (high .entry))) i o ⌝ }
 {
-    let mut out = ranges;
-    out[d] = product(ranges[i], operand_range(ranges, o));
-    out
+    product(range_at(low, high, i), operand_range(low, high, o))
 }
 
-// The ranges after DIVF.
-fn quotient_ranges(ranges: [Range; 18], d: usize, i: usize, o: Operand) -> [Range; 18]
-    requires { ⌜ Words ranges ⌝ }
-    requires { ⌜ ArithmeticLimited d i o ⌝ }
-    ensures { λ s. ⌜ s ≡ set ranges d (quotientRange (rangeOf ranges i) (operandRange ranges o)) ⌝ }
+// The range that DIVF gives.
+fn quotient_at<'a>(low: &'a [u64; 18], high: &'a [u64; 18], i: usize, o: Operand) -> Range
+    requires { ⌜ Ends (now low) (now high) ⌝ }
+    requires { ⌜ (i < variables) × OperandLimited o ⌝ }
+    ensures { λ s. ⌜ s ≡ quotientAt (rangesOf (now (low .entry)) (now (high .entry))) i o ⌝ }
 {
-    let mut out = ranges;
-    out[d] = quotient(ranges[i], operand_range(ranges, o));
-    out
+    quotient(range_at(low, high, i), operand_range(low, high, o))
+}
+
+// The range of one variable changed.
+fn one(v: usize, r: Range) -> Changes
+    requires { ⌜ v < variables ⌝ }
+    ensures { λ s. ⌜ ((rs : List Range) → Makes s rs (set rs v r)) ⌝ }
+{
+    Changes { v, r, u: v, q: r }
+}
+
+// Nothing changed: the first variable keeps its range.
+fn unchanged<'a>(low: &'a [u64; 18], high: &'a [u64; 18]) -> Changes
+    requires { ⌜ Ends (now low) (now high) ⌝ }
+    ensures { λ s. ⌜ Makes s (rangesOf (now (low .entry)) (now (high .entry))) (rangesOf (now (low .entry)) (now (high .entry))) ⌝ }
+{
+    one(0, range_at(low, high, 0))
+}
+
+// The range of v, which was q, once that of i has become r.
+fn range_after(i: usize, r: Range, v: usize, q: Range) -> Range
+    ensures { λ s. ⌜ ((rs : List Range) → i < length rs → q ≡ rangeOf rs v → s ≡ rangeOf (set rs i r) v) ⌝ }
+{
+    if v == i { r } else { q }
 }
 
 // BLTU taken: hi(i) below hi(o), lo(o) above lo(i).
-fn less_ranges(ranges: [Range; 18], i: usize, o: Operand) -> [Range; 18]
-    requires { ⌜ Words ranges ⌝ }
+fn less_ranges<'a>(low: &'a [u64; 18], high: &'a [u64; 18], i: usize, o: Operand) -> Changes
+    requires { ⌜ Ends (now low) (now high) ⌝ }
     requires { ⌜ (i < variables) × OperandLimited o ⌝ }
-    ensures { λ s. ⌜ s ≡ lessRanges i o ranges ⌝ }
+    ensures { λ s. ⌜ Makes s (rangesOf (now (low .entry)) (now (high .entry))) (lessRanges i o (rangesOf (now (low .entry)) (now (high .entry)))) ⌝ }
 {
-    let mut out = ranges;
-    let r = ranges[i];
-    let q = operand_range(ranges, o);
-    out[i] = below(q.hi, r);
+    let r = range_at(low, high, i);
+    let q = operand_range(low, high, o);
+    let first = below(q.hi, r);
     match o {
         Operand::Variable(v) => {
-            out[v] = at_least(r.lo + 1, out[v]);
-            out
+            let second = at_least(r.lo + 1, range_after(i, first, v, q));
+            Changes {
+                v: i,
+                r: first,
+                u: v,
+                q: second,
+            }
         }
-        Operand::Number(c) => out,
+        Operand::Number(c) => one(i, first),
     }
 }
 
 // BLTU not taken: lo(i) at least lo(o), hi(o) at most hi(i).
-fn not_less_ranges(ranges: [Range; 18], i: usize, o: Operand) -> [Range; 18]
-    requires { ⌜ Words ranges ⌝ }
+fn not_less_ranges<'a>(low: &'a [u64; 18], high: &'a [u64; 18], i: usize, o: Operand) -> Changes
+    requires { ⌜ Ends (now low) (now high) ⌝ }
     requires { ⌜ (i < variables) × OperandLimited o ⌝ }
-    ensures { λ s. ⌜ s ≡ notLessRanges i o ranges ⌝ }
+    ensures { λ s. ⌜ Makes s (rangesOf (now (low .entry)) (now (high .entry))) (notLessRanges i o (rangesOf (now (low .entry)) (now (high .entry)))) ⌝ }
 {
-    let mut out = ranges;
-    let r = ranges[i];
-    let q = operand_range(ranges, o);
-    out[i] = at_least(q.lo, r);
+    let r = range_at(low, high, i);
+    let q = operand_range(low, high, o);
+    let first = at_least(q.lo, r);
     match o {
         Operand::Variable(v) => {
-            out[v] = at_most(r.hi, out[v]);
-            out
+            let second = at_most(r.hi, range_after(i, first, v, q));
+            Changes {
+                v: i,
+                r: first,
+                u: v,
+                q: second,
+            }
         }
-        Operand::Number(c) => out,
+        Operand::Number(c) => one(i, first),
     }
 }
 
 // BEQU taken: both ranges become their overlap.
-fn equal_ranges(ranges: [Range; 18], i: usize, o: Operand) -> [Range; 18]
-    requires { ⌜ Words ranges ⌝ }
+fn equal_ranges<'a>(low: &'a [u64; 18], high: &'a [u64; 18], i: usize, o: Operand) -> Changes
+    requires { ⌜ Ends (now low) (now high) ⌝ }
     requires { ⌜ (i < variables) × OperandLimited o ⌝ }
-    ensures { λ s. ⌜ s ≡ equalRanges i o ranges ⌝ }
+    ensures { λ s. ⌜ Makes s (rangesOf (now (low .entry)) (now (high .entry))) (equalRanges i o (rangesOf (now (low .entry)) (now (high .entry)))) ⌝ }
 {
-    let mut out = ranges;
-    let r = ranges[i];
-    let q = operand_range(ranges, o);
-    out[i] = overlap(q, r);
+    let r = range_at(low, high, i);
+    let q = operand_range(low, high, o);
+    let first = overlap(q, r);
     match o {
         Operand::Variable(v) => {
-            out[v] = overlap(r, out[v]);
-            out
+            let second = overlap(r, range_after(i, first, v, q));
+            Changes {
+                v: i,
+                r: first,
+                u: v,
+                q: second,
+            }
         }
-        Operand::Number(c) => out,
+        Operand::Number(c) => one(i, first),
     }
 }
 
 // BEQU not taken: an end of i equal to the one value of o moves inward.
-fn unequal_ranges(ranges: [Range; 18], i: usize, o: Operand) -> [Range; 18]
-    requires { ⌜ Words ranges ⌝ }
+fn unequal_ranges<'a>(low: &'a [u64; 18], high: &'a [u64; 18], i: usize, o: Operand) -> Changes
+    requires { ⌜ Ends (now low) (now high) ⌝ }
     requires { ⌜ (i < variables) × OperandLimited o ⌝ }
-    ensures { λ s. ⌜ s ≡ unequalRanges i o ranges ⌝ }
+    ensures { λ s. ⌜ Makes s (rangesOf (now (low .entry)) (now (high .entry))) (unequalRanges i o (rangesOf (now (low .entry)) (now (high .entry)))) ⌝ }
 {
-    let q = operand_range(ranges, o);
+    let r = range_at(low, high, i);
+    let q = operand_range(low, high, o);
     if q.lo == q.hi {
-        let mut out = ranges;
-        out[i] = without(q.lo, ranges[i]);
-        return out;
+        return one(i, without(q.lo, r));
     }
-    ranges
+    unchanged(low, high)
 }
 
-// The ranges along an edge of BLTU.
-fn ordered_ranges(e: Edge, ranges: [Range; 18], i: usize, o: Operand) -> [Range; 18]
-    requires { ⌜ Words ranges ⌝ }
+// The changes along an edge of BLTU.
+fn ordered_ranges<'a>(
+    e: Edge,
+    low: &'a [u64; 18],
+    high: &'a [u64; 18],
+    i: usize,
+    o: Operand,
+) -> Changes
+    requires { ⌜ Ends (now low) (now high) ⌝ }
     requires { ⌜ (i < variables) × OperandLimited o ⌝ }
-    ensures { λ s. ⌜ s ≡ orderedRanges e i o ranges ⌝ }
+    ensures { λ s. ⌜ Makes s (rangesOf (now (low .entry)) (now (high .entry))) (orderedRanges e i o (rangesOf (now (low .entry)) (now (high .entry)))) ⌝ }
 {
     match e {
-        Edge::Next => not_less_ranges(ranges, i, o),
-        Edge::Target(u) => less_ranges(ranges, i, o),
+        Edge::Next => not_less_ranges(low, high, i, o),
+        Edge::Target(u) => less_ranges(low, high, i, o),
     }
 }
 
-// The ranges along an edge of BEQU.
-fn matched_ranges(e: Edge, ranges: [Range; 18], i: usize, o: Operand) -> [Range; 18]
-    requires { ⌜ Words ranges ⌝ }
+// The changes along an edge of BEQU.
+fn matched_ranges<'a>(
+    e: Edge,
+    low: &'a [u64; 18],
+    high: &'a [u64; 18],
+    i: usize,
+    o: Operand,
+) -> Changes
+    requires { ⌜ Ends (now low) (now high) ⌝ }
     requires { ⌜ (i < variables) × OperandLimited o ⌝ }
-    ensures { λ s. ⌜ s ≡ matchedRanges e i o ranges ⌝ }
+    ensures { λ s. ⌜ Makes s (rangesOf (now (low .entry)) (now (high .entry))) (matchedRanges e i o (rangesOf (now (low .entry)) (now (high .entry)))) ⌝ }
 {
     match e {
-        Edge::Next => unequal_ranges(ranges, i, o),
-        Edge::Target(u) => equal_ranges(ranges, i, o),
+        Edge::Next => unequal_ranges(low, high, i, o),
+        Edge::Target(u) => equal_ranges(low, high, i, o),
     }
 }
 
-// One variable's range replaced.
-fn with_range(ranges: [Range; 18], v: usize, r: Range) -> [Range; 18]
-    requires { ⌜ v < variables ⌝ }
-    ensures { λ s. ⌜ s ≡ set ranges v r ⌝ }
-{
-    let mut out = ranges;
-    out[v] = r;
-    out
-}
-
-// The ranges along an edge of an instruction.
-pub fn ranges_along(e: Edge, i: Instruction, ranges: [Range; 18]) -> [Range; 18]
-    requires { ⌜ Words ranges ⌝ }
+// The changes along an edge of an instruction.
+pub fn changes_along<'a>(
+    e: Edge,
+    i: Instruction,
+    low: &'a [u64; 18],
+    high: &'a [u64; 18],
+) -> Changes
+    requires { ⌜ Ends (now low) (now high) ⌝ }
     requires { ⌜ Limited i ⌝ }
-    ensures { λ s. ⌜ s ≡ rangesAlong e i ranges ⌝ }
+    ensures { λ s. ⌜ Makes s (rangesOf (now (low .entry)) (now (high .entry))) (rangesAlong e i (rangesOf (now (low .entry)) (now (high .entry)))) ⌝ }
 {
     match i {
-        Instruction::Stop => ranges,
-        Instruction::Setc { d, c } => with_range(ranges, d, Range::exactly(c as u64)),
-        Instruction::Copy { d, i } => with_range(ranges, d, ranges[i]),
-        Instruction::Addw { d, i, o } => sum_ranges(ranges, d, i, o),
-        Instruction::Subw { d, i, o } => difference_ranges(ranges, d, i, o),
-        Instruction::Mulw { d, i, o } => product_ranges(ranges, d, i, o),
-        Instruction::Divf { d, i, o } => quotient_ranges(ranges, d, i, o),
+        Instruction::Stop => unchanged(low, high),
+        Instruction::Setc { d, c } => one(d, Range::exactly(c as u64)),
+        Instruction::Copy { d, i } => one(d, range_at(low, high, i)),
+        Instruction::Addw { d, i, o } => one(d, sum_at(low, high, i, o)),
+        Instruction::Subw { d, i, o } => one(d, difference_at(low, high, i, o)),
+        Instruction::Mulw { d, i, o } => one(d, product_at(low, high, i, o)),
+        Instruction::Divf { d, i, o } => one(d, quotient_at(low, high, i, o)),
         Instruction::Load {
             d,
             w,
@@ -387,24 +442,34 @@ pub fn ranges_along(e: Edge, i: Instruction, ranges: [Range; 18]) -> [Range; 18]
             a,
             i,
             k,
-        } => with_range(ranges, d, loaded(w)),
-        Instruction::Stor { v, w, a, i, k } => ranges,
-        Instruction::Jump { t } => ranges,
-        Instruction::Bltu { i, t, o } => ordered_ranges(e, ranges, i, o),
-        Instruction::Bequ { i, t, o } => matched_ranges(e, ranges, i, o),
+        } => one(d, loaded(w)),
+        Instruction::Stor { v, w, a, i, k } => unchanged(low, high),
+        Instruction::Jump { t } => unchanged(low, high),
+        Instruction::Bltu { i, t, o } => ordered_ranges(e, low, high, i, o),
+        Instruction::Bequ { i, t, o } => matched_ranges(e, low, high, i, o),
     }
 }
 
-// Whether every variable's range has a value.
-pub fn non_empty(ranges: [Range; 18]) -> bool
-    ensures { λ r. ⌜ r ≡ nonEmpty ranges ⌝ }
+// Writes the ranges with their changes made.
+pub fn write_ranges<'a>(
+    c: Changes,
+    low: &'a [u64; 18],
+    high: &'a [u64; 18],
+    new_low: &'a mut [u64; 18],
+    new_high: &'a mut [u64; 18],
+)
+    requires { ⌜ (c .v < variables) × (c .u < variables) ⌝ }
+    ensures { λ s. ⌜ now («new_low» .exit) ≡ set (set (now (low .entry)) (c .v) (c .r .lo)) (c .u) (c .q .lo) ⌝ }
+    ensures { λ s. ⌜ now («new_high» .exit) ≡ set (set (now (high .entry)) (c .v) (c .r .hi)) (c .u) (c .q .hi) ⌝ }
 {
-    let mut every = true;
-    let mut v = 0;
-    while v < 18 {
-        let r = ranges[v];
-        every = every & (r.lo <= r.hi);
-        v += 1;
-    }
-    every
+    let v = c.v;
+    let u = c.u;
+    let r = c.r;
+    let q = c.q;
+    *new_low = *low;
+    *new_high = *high;
+    new_low[v] = r.lo;
+    new_high[v] = r.hi;
+    new_low[u] = q.lo;
+    new_high[u] = q.hi;
 }

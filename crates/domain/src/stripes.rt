@@ -1,33 +1,51 @@
-// The stripes along an edge, a function for each rule. What a step adds stands in front of what it keeps.
+// What an edge does to the stripes, a function for each rule, and how that is carried out.
 use crate::ranges::difference_fits;
 use crate::ranges::operand_range;
 use crate::ranges::product_fits;
+use crate::ranges::range_at;
 use crate::ranges::sum_fits;
-use model::claims::Range;
+use goals::rows::write_row;
 use model::claims::Stripe;
 use model::machine::Edge;
 use model::machine::Instruction;
 use model::machine::Operand;
 ghost use mathlib.Core.Path.{_≡_};
 ghost use mathlib.Core.Bool.{cond};
-ghost use mathlib.Core.List.{_∷_, _++_};
+ghost use mathlib.Core.List.{List, [], _∷_};
 ghost use Prim.Native.Nat.{_+_, _*_, _<_, _≤_};
-ghost use lib.ListN.{take};
 ghost use lib.Dec.{eqb};
-ghost use Rattle.model.specs.Facts.{rangeOf};
+ghost use Rattle.model.specs.declared.claims.Stripe.{Stripe};
 ghost use Rattle.model.specs.declared.machine.Operand.the-variants.{Number};
-ghost use Rattle.model.specs.Limits.{variables, MAX, greatestBound, greatestStripes};
+ghost use Rattle.model.specs.Limits.{variables, MAX, greatestBound};
+ghost use Rattle.model.specs.Facts.{rangeOf};
 ghost use Rattle.model.specs.Transfer as Model;
-ghost use Rattle.model.specs.Transfer.{operandRange, sumFits, differenceFits, productFits, boundInLimits, ifIs, allShifted, byNumber, sumStripes, differenceStripes, productStripes, lessStripes, notLessStripes, equalStripes, stripesAlong};
+ghost use Rattle.model.specs.Transfer.{operandRange, sumFits, differenceFits, productFits, boundInLimits, ifIs, byNumber, sumStripes, differenceStripes, productStripes, lessStripes, notLessStripes, equalStripes, stripesAlong};
 ghost use Rattle.model.proofs.Limits.{OperandLimited, ArithmeticLimited, Limited};
-ghost use Rattle.domain.specs.Known.{Words, Small, Within, places, greatestAlong};
-ghost use Rattle.domain.specs.Holding.{Holding};
+ghost use Rattle.goals.specs.Sizes as goal;
+ghost use Rattle.goals.specs.Sizes.{greatestPart};
+ghost use Rattle.goals.specs.Rows.{SizedRows, stripeAt};
+ghost use Rattle.domain.specs.Known.{rangesOf, stripesOf, Small, Bytes, Ends, Standing};
+ghost use Rattle.domain.specs.Plans.{keptOf, addedTo, ShiftLimited, AddedLimited, Does, Extends};
 ghost use Rattle.domain.specs.Branches.{orderedStripes, matchedStripes};
 
-// Ten places for stripes, of which the first count stand.
-pub struct Stripes {
-    pub rows: [Stripe; 10],
-    pub count: usize,
+// What is kept of the stripes that stand: all, those that do not name d, or all once d has become d + up - down.
+pub enum Kept {
+    All,
+    Without { d: u8 },
+    Shifted { d: u8, up: u64, down: u64 },
+}
+
+// What is added in front of them.
+pub enum Added {
+    Nothing,
+    One { s: Stripe },
+    Two { s: Stripe, t: Stripe },
+}
+
+// What an edge does to the stripes.
+pub struct Plan {
+    pub kept: Kept,
+    pub added: Added,
 }
 
 // Whether the stripe names d.
@@ -57,7 +75,7 @@ fn shifted(s: Stripe, d: u8, up: u64, down: u64) -> Stripe
     requires { ⌜ Small greatestBound s ⌝ }
     requires { ⌜ (up ≤ MAX) × (down ≤ MAX) ⌝ }
     ensures { λ r. ⌜ r ≡ Model.shifted d up down s ⌝ }
-    ensures { λ r. ⌜ Small greatestAlong r ⌝ }
+    ensures { λ r. ⌜ Small greatestPart r ⌝ }
 {
     let more = if_is(d, s.x, up);
     let less = if_is(d, s.x, down);
@@ -75,119 +93,93 @@ fn shifted(s: Stripe, d: u8, up: u64, down: u64) -> Stripe
 
 // Whether the bound lies within its limits.
 fn bound_in_limits(s: Stripe) -> bool
-    requires { ⌜ Small greatestAlong s ⌝ }
+    requires { ⌜ Small greatestPart s ⌝ }
     ensures { λ r. ⌜ r ≡ boundInLimits s ⌝ }
 {
     (s.plus <= s.minus + 4_398_046_511_104) & (s.minus <= s.plus + 4_398_046_511_104)
 }
 
-// All stripes once d has become d + up - down, without those whose bound leaves its limits.
-fn all_shifted(rows: [Stripe; 10], count: usize, d: u8, up: u64, down: u64) -> Stripes
-    requires { ⌜ Within greatestBound rows ⌝ }
-    requires { ⌜ count ≤ greatestStripes ⌝ }
-    requires { ⌜ (up ≤ MAX) × (down ≤ MAX) ⌝ }
-    ensures { λ r. ⌜ Holding r (allShifted d up down (take count rows)) ⌝ }
+// All stripes kept.
+fn all() -> Plan
+    ensures { λ p. ⌜ Does p (λ (ss : List Stripe). ss) ⌝ }
 {
-    let mut out = rows;
-    let mut n = 0;
-    let mut i = 0;
-    while i < count {
-        let s = shifted(rows[i], d, up, down);
-        i += 1;
-        if bound_in_limits(s) {
-            out[n] = s;
-            n += 1;
-        }
+    Plan {
+        kept: Kept::All,
+        added: Added::Nothing,
     }
-    Stripes {
-        rows: out,
-        count: n,
-    }
-}
-
-// The stripes that do not name d, after the first m of another array.
-fn dropped_after(front: [Stripe; 10], m: usize, rows: [Stripe; 10], count: usize, d: u8) -> Stripes
-    requires { ⌜ Within greatestAlong front ⌝ }
-    requires { ⌜ Within greatestBound rows ⌝ }
-    requires { ⌜ m + count ≤ places ⌝ }
-    ensures { λ r. ⌜ Holding r (take m front ++ Model.dropped d (take count rows)) ⌝ }
-{
-    let mut out = front;
-    let mut n = m;
-    let mut i = 0;
-    while i < count {
-        let s = rows[i];
-        i += 1;
-        if !names(s, d) {
-            out[n] = s;
-            n += 1;
-        }
-    }
-    Stripes {
-        rows: out,
-        count: n,
-    }
-}
-
-// All stripes, after the first m of another array.
-fn kept_after(front: [Stripe; 10], m: usize, rows: [Stripe; 10], count: usize) -> Stripes
-    requires { ⌜ Within greatestAlong front ⌝ }
-    requires { ⌜ Within greatestBound rows ⌝ }
-    requires { ⌜ m + count ≤ places ⌝ }
-    ensures { λ r. ⌜ Holding r (take m front ++ take count rows) ⌝ }
-{
-    let mut out = front;
-    let mut n = m;
-    let mut i = 0;
-    while i < count {
-        out[n] = rows[i];
-        n += 1;
-        i += 1;
-    }
-    Stripes {
-        rows: out,
-        count: n,
-    }
-}
-
-// All stripes.
-fn kept(rows: [Stripe; 10], count: usize) -> Stripes
-    requires { ⌜ Within greatestBound rows ⌝ }
-    requires { ⌜ count ≤ greatestStripes ⌝ }
-    ensures { λ r. ⌜ Holding r (take count rows) ⌝ }
-{
-    Stripes { rows, count }
 }
 
 // The stripes that do not name d.
-fn dropped(rows: [Stripe; 10], count: usize, d: usize) -> Stripes
-    requires { ⌜ Within greatestBound rows ⌝ }
-    requires { ⌜ (count ≤ greatestStripes) × (d < variables) ⌝ }
-    ensures { λ r. ⌜ Holding r (Model.dropped d (take count rows)) ⌝ }
+fn dropped(d: usize) -> Plan
+    requires { ⌜ d < variables ⌝ }
+    ensures { λ p. ⌜ Does p (λ (ss : List Stripe). Model.dropped d ss) ⌝ }
 {
-    dropped_after(rows, 0, rows, count, d as u8)
+    Plan {
+        kept: Kept::Without { d: d as u8 },
+        added: Added::Nothing,
+    }
+}
+
+// One stripe in front of all.
+fn one_and_all(s: Stripe) -> Plan
+    requires { ⌜ Small greatestBound s ⌝ }
+    ensures { λ p. ⌜ Does p (λ (ss : List Stripe). s ∷ ss) ⌝ }
+{
+    Plan {
+        kept: Kept::All,
+        added: Added::One { s },
+    }
+}
+
+// Two stripes in front of all.
+fn two_and_all(s: Stripe, t: Stripe) -> Plan
+    requires { ⌜ Small greatestBound s × Small greatestBound t ⌝ }
+    ensures { λ p. ⌜ Does p (λ (ss : List Stripe). s ∷ t ∷ ss) ⌝ }
+{
+    Plan {
+        kept: Kept::All,
+        added: Added::Two { s, t },
+    }
 }
 
 // One stripe in front of those that do not name d.
-fn one_and_dropped(s: Stripe, rows: [Stripe; 10], count: usize, d: usize) -> Stripes
+fn one_and_dropped(s: Stripe, d: usize) -> Plan
     requires { ⌜ Small greatestBound s ⌝ }
-    requires { ⌜ Within greatestBound rows ⌝ }
-    requires { ⌜ (count ≤ greatestStripes) × (d < variables) ⌝ }
-    ensures { λ r. ⌜ Holding r (s ∷ Model.dropped d (take count rows)) ⌝ }
+    requires { ⌜ d < variables ⌝ }
+    ensures { λ p. ⌜ Does p (λ (ss : List Stripe). s ∷ Model.dropped d ss) ⌝ }
 {
-    dropped_after([s; 10], 1, rows, count, d as u8)
+    Plan {
+        kept: Kept::Without { d: d as u8 },
+        added: Added::One { s },
+    }
 }
 
 // Two stripes in front of those that do not name d.
-fn two_and_dropped(s: Stripe, t: Stripe, rows: [Stripe; 10], count: usize, d: usize) -> Stripes
+fn two_and_dropped(s: Stripe, t: Stripe, d: usize) -> Plan
     requires { ⌜ Small greatestBound s × Small greatestBound t ⌝ }
-    requires { ⌜ Within greatestBound rows ⌝ }
-    requires { ⌜ (count ≤ greatestStripes) × (d < variables) ⌝ }
-    ensures { λ r. ⌜ Holding r (s ∷ t ∷ Model.dropped d (take count rows)) ⌝ }
+    requires { ⌜ d < variables ⌝ }
+    ensures { λ p. ⌜ Does p (λ (ss : List Stripe). s ∷ t ∷ Model.dropped d ss) ⌝ }
 {
-    let mut front = [s; 10];
-    front[1] = t;
-    dropped_after(front, 2, rows, count, d as u8)
+    Plan {
+        kept: Kept::Without { d: d as u8 },
+        added: Added::Two { s, t },
+    }
+}
+
+// All stripes once d has become d + up - down.
+fn all_shifted(d: usize, up: u64, down: u64) -> Plan
+    requires { ⌜ d < variables ⌝ }
+    requires { ⌜ (up ≤ MAX) × (down ≤ MAX) ⌝ }
+    ensures { λ p. ⌜ Does p (λ (ss : List Stripe). Model.allShifted d up down ss) ⌝ }
+{
+    Plan {
+        kept: Kept::Shifted {
+            d: d as u8,
+            up,
+            down,
+        },
+        added: Added::Nothing,
+    }
 }
 
 // The stripe x - a * (y + z) >= 0.
@@ -221,240 +213,205 @@ fn apart(u: usize, v: usize, plus: u64, minus: u64) -> Stripe
 }
 
 // d = i + up - down for a number: both ways round, or all stripes shifted where d is i.
-fn by_number(rows: [Stripe; 10], count: usize, d: usize, i: usize, up: u64, down: u64) -> Stripes
-    requires { ⌜ Within greatestBound rows ⌝ }
-    requires { ⌜ (count ≤ greatestStripes) × (d < variables) × (i < variables) ⌝ }
+fn by_number(d: usize, i: usize, up: u64, down: u64) -> Plan
+    requires { ⌜ (d < variables) × (i < variables) ⌝ }
     requires { ⌜ (up ≤ MAX) × (down ≤ MAX) ⌝ }
-    ensures { λ r. ⌜ Holding r (byNumber d i up down (take count rows)) ⌝ }
+    ensures { λ p. ⌜ Does p (λ (ss : List Stripe). byNumber d i up down ss) ⌝ }
 {
     if d == i {
-        return all_shifted(rows, count, d as u8, up, down);
+        return all_shifted(d, up, down);
     }
-    two_and_dropped(apart(d, i, up, down), apart(i, d, down, up), rows, count, d)
+    two_and_dropped(apart(d, i, up, down), apart(i, d, down, up), d)
 }
 
 // The stripes after COPY: d and i both ways round, or all where d is i.
-fn copy_stripes(rows: [Stripe; 10], count: usize, d: usize, i: usize) -> Stripes
-    requires { ⌜ Within greatestBound rows ⌝ }
-    requires { ⌜ (count ≤ greatestStripes) × (d < variables) × (i < variables) ⌝ }
-    ensures { λ r. ⌜ Holding r (cond (eqb d i) (take count rows) (Model.apart d i 0 0 ∷ Model.apart i d 0 0 ∷ Model.dropped d (take count rows))) ⌝ }
+fn copy_stripes(d: usize, i: usize) -> Plan
+    requires { ⌜ (d < variables) × (i < variables) ⌝ }
+    ensures { λ p. ⌜ Does p (λ (ss : List Stripe). cond (eqb d i) ss (Model.apart d i 0 0 ∷ Model.apart i d 0 0 ∷ Model.dropped d ss)) ⌝ }
 {
     if d == i {
-        return kept(rows, count);
+        return all();
     }
-    two_and_dropped(apart(d, i, 0, 0), apart(i, d, 0, 0), rows, count, d)
+    two_and_dropped(apart(d, i, 0, 0), apart(i, d, 0, 0), d)
 }
 
 // ADDW where nothing wraps: by a number, or d - (i + o) >= 0.
-fn sum_stripes(rows: [Stripe; 10], count: usize, d: usize, i: usize, o: Operand) -> Stripes
-    requires { ⌜ Within greatestBound rows ⌝ }
-    requires { ⌜ count ≤ greatestStripes ⌝ }
+fn sum_stripes(d: usize, i: usize, o: Operand) -> Plan
     requires { ⌜ ArithmeticLimited d i o ⌝ }
-    ensures { λ r. ⌜ Holding r (sumStripes d i o (take count rows)) ⌝ }
+    ensures { λ p. ⌜ Does p (λ (ss : List Stripe). sumStripes d i o ss) ⌝ }
 {
     match o {
         Operand::Variable(v) => {
             if (d == i) | (d == v) {
-                return dropped(rows, count, d);
+                return dropped(d);
             }
-            one_and_dropped(stripe(d, 1, i, v), rows, count, d)
+            one_and_dropped(stripe(d, 1, i, v), d)
         }
-        Operand::Number(c) => by_number(rows, count, d, i, c as u64, 0),
+        Operand::Number(c) => by_number(d, i, c as u64, 0),
     }
 }
 
 // SUBW where nothing wraps: by a number, or i - (d + o) >= 0.
-fn difference_stripes(rows: [Stripe; 10], count: usize, d: usize, i: usize, o: Operand) -> Stripes
-    requires { ⌜ Within greatestBound rows ⌝ }
-    requires { ⌜ count ≤ greatestStripes ⌝ }
+fn difference_stripes(d: usize, i: usize, o: Operand) -> Plan
     requires { ⌜ ArithmeticLimited d i o ⌝ }
-    ensures { λ r. ⌜ Holding r (differenceStripes d i o (take count rows)) ⌝ }
+    ensures { λ p. ⌜ Does p (λ (ss : List Stripe). differenceStripes d i o ss) ⌝ }
 {
     match o {
         Operand::Variable(v) => {
             if (d == i) | (d == v) {
-                return dropped(rows, count, d);
+                return dropped(d);
             }
-            one_and_dropped(stripe(i, 1, d, v), rows, count, d)
+            one_and_dropped(stripe(i, 1, d, v), d)
         }
-        Operand::Number(c) => by_number(rows, count, d, i, 0, c as u64),
+        Operand::Number(c) => by_number(d, i, 0, c as u64),
     }
 }
 
 // MULW by a number where nothing wraps: d - c * i >= 0, if c can be a scale.
-fn scaled_stripes(rows: [Stripe; 10], count: usize, d: usize, i: usize, c: u32) -> Stripes
-    requires { ⌜ Within greatestBound rows ⌝ }
-    requires { ⌜ (count ≤ greatestStripes) × (d < variables) × (i < variables) ⌝ }
-    ensures { λ r. ⌜ Holding r (productStripes d i (Number c) (take count rows)) ⌝ }
+fn scaled_stripes(d: usize, i: usize, c: u32) -> Plan
+    requires { ⌜ (d < variables) × (i < variables) ⌝ }
+    ensures { λ p. ⌜ Does p (λ (ss : List Stripe). productStripes d i (Number c) ss) ⌝ }
 {
     if (1 <= c) & (c <= 255) & (d != i) {
-        return one_and_dropped(stripe(d, c as u8, i, 18), rows, count, d);
+        return one_and_dropped(stripe(d, c as u8, i, 18), d);
     }
-    dropped(rows, count, d)
+    dropped(d)
 }
 
 // MULW where nothing wraps.
-fn product_stripes(rows: [Stripe; 10], count: usize, d: usize, i: usize, o: Operand) -> Stripes
-    requires { ⌜ Within greatestBound rows ⌝ }
-    requires { ⌜ count ≤ greatestStripes ⌝ }
+fn product_stripes(d: usize, i: usize, o: Operand) -> Plan
     requires { ⌜ ArithmeticLimited d i o ⌝ }
-    ensures { λ r. ⌜ Holding r (productStripes d i o (take count rows)) ⌝ }
+    ensures { λ p. ⌜ Does p (λ (ss : List Stripe). productStripes d i o ss) ⌝ }
 {
     match o {
-        Operand::Variable(v) => dropped(rows, count, d),
-        Operand::Number(c) => scaled_stripes(rows, count, d, i, c),
+        Operand::Variable(v) => dropped(d),
+        Operand::Number(c) => scaled_stripes(d, i, c),
     }
 }
 
 // BLTU taken: o - i >= 1.
-fn less_stripes(rows: [Stripe; 10], count: usize, i: usize, o: Operand) -> Stripes
-    requires { ⌜ Within greatestBound rows ⌝ }
-    requires { ⌜ (count ≤ greatestStripes) × (i < variables) × OperandLimited o ⌝ }
-    ensures { λ r. ⌜ Holding r (lessStripes i o (take count rows)) ⌝ }
+fn less_stripes(i: usize, o: Operand) -> Plan
+    requires { ⌜ (i < variables) × OperandLimited o ⌝ }
+    ensures { λ p. ⌜ Does p (λ (ss : List Stripe). lessStripes i o ss) ⌝ }
 {
     match o {
-        Operand::Variable(v) => kept_after([apart(v, i, 1, 0); 10], 1, rows, count),
-        Operand::Number(c) => kept(rows, count),
+        Operand::Variable(v) => one_and_all(apart(v, i, 1, 0)),
+        Operand::Number(c) => all(),
     }
 }
 
 // BLTU not taken: i - o >= 0.
-fn not_less_stripes(rows: [Stripe; 10], count: usize, i: usize, o: Operand) -> Stripes
-    requires { ⌜ Within greatestBound rows ⌝ }
-    requires { ⌜ (count ≤ greatestStripes) × (i < variables) × OperandLimited o ⌝ }
-    ensures { λ r. ⌜ Holding r (notLessStripes i o (take count rows)) ⌝ }
+fn not_less_stripes(i: usize, o: Operand) -> Plan
+    requires { ⌜ (i < variables) × OperandLimited o ⌝ }
+    ensures { λ p. ⌜ Does p (λ (ss : List Stripe). notLessStripes i o ss) ⌝ }
 {
     match o {
-        Operand::Variable(v) => kept_after([apart(i, v, 0, 0); 10], 1, rows, count),
-        Operand::Number(c) => kept(rows, count),
+        Operand::Variable(v) => one_and_all(apart(i, v, 0, 0)),
+        Operand::Number(c) => all(),
     }
 }
 
 // BEQU taken: o - i >= 0 and i - o >= 0.
-fn equal_stripes(rows: [Stripe; 10], count: usize, i: usize, o: Operand) -> Stripes
-    requires { ⌜ Within greatestBound rows ⌝ }
-    requires { ⌜ (count ≤ greatestStripes) × (i < variables) × OperandLimited o ⌝ }
-    ensures { λ r. ⌜ Holding r (equalStripes i o (take count rows)) ⌝ }
+fn equal_stripes(i: usize, o: Operand) -> Plan
+    requires { ⌜ (i < variables) × OperandLimited o ⌝ }
+    ensures { λ p. ⌜ Does p (λ (ss : List Stripe). equalStripes i o ss) ⌝ }
 {
     match o {
-        Operand::Variable(v) => {
-            let mut front = [apart(v, i, 0, 0); 10];
-            front[1] = apart(i, v, 0, 0);
-            kept_after(front, 2, rows, count)
-        }
-        Operand::Number(c) => kept(rows, count),
+        Operand::Variable(v) => two_and_all(apart(v, i, 0, 0), apart(i, v, 0, 0)),
+        Operand::Number(c) => all(),
     }
 }
 
 // The stripes after ADDW.
-fn stripes_of_sum(
-    ranges: [Range; 18],
-    rows: [Stripe; 10],
-    count: usize,
+fn stripes_of_sum<'a>(
+    low: &'a [u64; 18],
+    high: &'a [u64; 18],
     d: usize,
     i: usize,
     o: Operand,
-) -> Stripes
-    requires { ⌜ Words ranges ⌝ }
-    requires { ⌜ Within greatestBound rows ⌝ }
-    requires { ⌜ count ≤ greatestStripes ⌝ }
+) -> Plan
+    requires { ⌜ Ends (now low) (now high) ⌝ }
     requires { ⌜ ArithmeticLimited d i o ⌝ }
-    ensures { λ r. ⌜ Holding r (cond (sumFits (rangeOf ranges i) (operandRange ranges o)) (sumStripes d i o (take count rows)) (Model.dropped d (take count rows))) ⌝ }
+    ensures { λ p. ⌜ Does p (λ (ss : List Stripe). cond (sumFits (rangeOf (rangesOf (now (low .entry)) (now (high .entry))) i) (operandRange (rangesOf (now (low .entry)) (now (high .entry))) o)) (sumStripes d i o ss) (Model.dropped d ss)) ⌝ }
 {
-    if sum_fits(ranges[i], operand_range(ranges, o)) {
-        return sum_stripes(rows, count, d, i, o);
+    if sum_fits(range_at(low, high, i), operand_range(low, high, o)) {
+        return sum_stripes(d, i, o);
     }
-    dropped(rows, count, d)
+    dropped(d)
 }
 
 // The stripes after SUBW.
-fn stripes_of_difference(
-    ranges: [Range; 18],
-    rows: [Stripe; 10],
-    count: usize,
+fn stripes_of_difference<'a>(
+    low: &'a [u64; 18],
+    high: &'a [u64; 18],
     d: usize,
     i: usize,
     o: Operand,
-) -> Stripes
-    requires { ⌜ Words ranges ⌝ }
-    requires { ⌜ Within greatestBound rows ⌝ }
-    requires { ⌜ count ≤ greatestStripes ⌝ }
+) -> Plan
+    requires { ⌜ Ends (now low) (now high) ⌝ }
     requires { ⌜ ArithmeticLimited d i o ⌝ }
-    ensures { λ r. ⌜ Holding r (cond (differenceFits (rangeOf ranges i) (operandRange ranges o)) (differenceStripes d i o (take count rows)) (Model.dropped d (take count rows))) ⌝ }
+    ensures { λ p. ⌜ Does p (λ (ss : List Stripe). cond (differenceFits (rangeOf (rangesOf (now (low .entry)) (now (high .entry))) i) (operandRange (rangesOf (now (low .entry)) (now (high .entry))) o)) (differenceStripes d i o ss) (Model.dropped d ss)) ⌝ }
 {
-    if difference_fits(ranges[i], operand_range(ranges, o)) {
-        return difference_stripes(rows, count, d, i, o);
+    if difference_fits(range_at(low, high, i), operand_range(low, high, o)) {
+        return difference_stripes(d, i, o);
     }
-    dropped(rows, count, d)
+    dropped(d)
 }
 
 // The stripes after MULW.
-fn stripes_of_product(
-    ranges: [Range; 18],
-    rows: [Stripe; 10],
-    count: usize,
+fn stripes_of_product<'a>(
+    low: &'a [u64; 18],
+    high: &'a [u64; 18],
     d: usize,
     i: usize,
     o: Operand,
-) -> Stripes
-    requires { ⌜ Words ranges ⌝ }
-    requires { ⌜ Within greatestBound rows ⌝ }
-    requires { ⌜ count ≤ greatestStripes ⌝ }
+) -> Plan
+    requires { ⌜ Ends (now low) (now high) ⌝ }
     requires { ⌜ ArithmeticLimited d i o ⌝ }
-    ensures { λ r. ⌜ Holding r (cond (productFits (rangeOf ranges i) (operandRange ranges o)) (productStripes d i o (take count rows)) (Model.dropped d (take count rows))) ⌝ }
+    ensures { λ p. ⌜ Does p (λ (ss : List Stripe). cond (productFits (rangeOf (rangesOf (now (low .entry)) (now (high .entry))) i) (operandRange (rangesOf (now (low .entry)) (now (high .entry))) o)) (productStripes d i o ss) (Model.dropped d ss)) ⌝ }
 {
-    if product_fits(ranges[i], operand_range(ranges, o)) {
-        return product_stripes(rows, count, d, i, o);
+    if product_fits(range_at(low, high, i), operand_range(low, high, o)) {
+        return product_stripes(d, i, o);
     }
-    dropped(rows, count, d)
+    dropped(d)
 }
 
 // The stripes along an edge of BLTU.
-fn ordered_stripes(e: Edge, rows: [Stripe; 10], count: usize, i: usize, o: Operand) -> Stripes
-    requires { ⌜ Within greatestBound rows ⌝ }
-    requires { ⌜ (count ≤ greatestStripes) × (i < variables) × OperandLimited o ⌝ }
-    ensures { λ r. ⌜ Holding r (orderedStripes e i o (take count rows)) ⌝ }
+fn ordered_stripes(e: Edge, i: usize, o: Operand) -> Plan
+    requires { ⌜ (i < variables) × OperandLimited o ⌝ }
+    ensures { λ p. ⌜ Does p (λ (ss : List Stripe). orderedStripes e i o ss) ⌝ }
 {
     match e {
-        Edge::Next => not_less_stripes(rows, count, i, o),
-        Edge::Target(u) => less_stripes(rows, count, i, o),
+        Edge::Next => not_less_stripes(i, o),
+        Edge::Target(u) => less_stripes(i, o),
     }
 }
 
 // The stripes along an edge of BEQU.
-fn matched_stripes(e: Edge, rows: [Stripe; 10], count: usize, i: usize, o: Operand) -> Stripes
-    requires { ⌜ Within greatestBound rows ⌝ }
-    requires { ⌜ (count ≤ greatestStripes) × (i < variables) × OperandLimited o ⌝ }
-    ensures { λ r. ⌜ Holding r (matchedStripes e i o (take count rows)) ⌝ }
+fn matched_stripes(e: Edge, i: usize, o: Operand) -> Plan
+    requires { ⌜ (i < variables) × OperandLimited o ⌝ }
+    ensures { λ p. ⌜ Does p (λ (ss : List Stripe). matchedStripes e i o ss) ⌝ }
 {
     match e {
-        Edge::Next => kept(rows, count),
-        Edge::Target(u) => equal_stripes(rows, count, i, o),
+        Edge::Next => all(),
+        Edge::Target(u) => equal_stripes(i, o),
     }
 }
 
 // The stripes along an edge of an instruction, with the ranges before the step.
-pub fn stripes_along(
-    e: Edge,
-    i: Instruction,
-    ranges: [Range; 18],
-    rows: [Stripe; 10],
-    count: usize,
-) -> Stripes
-    requires { ⌜ Words ranges ⌝ }
-    requires { ⌜ Within greatestBound rows ⌝ }
-    requires { ⌜ count ≤ greatestStripes ⌝ }
+pub fn plan_along<'a>(e: Edge, i: Instruction, low: &'a [u64; 18], high: &'a [u64; 18]) -> Plan
+    requires { ⌜ Ends (now low) (now high) ⌝ }
     requires { ⌜ Limited i ⌝ }
-    ensures { λ r. ⌜ Holding r (stripesAlong e i ranges (take count rows)) ⌝ }
+    ensures { λ p. ⌜ Does p (λ (ss : List Stripe). stripesAlong e i (rangesOf (now (low .entry)) (now (high .entry))) ss) ⌝ }
 {
     match i {
-        Instruction::Stop => kept(rows, count),
-        Instruction::Setc { d, c } => dropped(rows, count, d),
-        Instruction::Copy { d, i } => copy_stripes(rows, count, d, i),
-        Instruction::Addw { d, i, o } => stripes_of_sum(ranges, rows, count, d, i, o),
-        Instruction::Subw { d, i, o } => stripes_of_difference(ranges, rows, count, d, i, o),
-        Instruction::Mulw { d, i, o } => stripes_of_product(ranges, rows, count, d, i, o),
-        Instruction::Divf { d, i, o } => dropped(rows, count, d),
+        Instruction::Stop => all(),
+        Instruction::Setc { d, c } => dropped(d),
+        Instruction::Copy { d, i } => copy_stripes(d, i),
+        Instruction::Addw { d, i, o } => stripes_of_sum(low, high, d, i, o),
+        Instruction::Subw { d, i, o } => stripes_of_difference(low, high, d, i, o),
+        Instruction::Mulw { d, i, o } => stripes_of_product(low, high, d, i, o),
+        Instruction::Divf { d, i, o } => dropped(d),
         Instruction::Load {
             d,
             w,
@@ -462,10 +419,114 @@ pub fn stripes_along(
             a,
             i,
             k,
-        } => dropped(rows, count, d),
-        Instruction::Stor { v, w, a, i, k } => kept(rows, count),
-        Instruction::Jump { t } => kept(rows, count),
-        Instruction::Bltu { i, t, o } => ordered_stripes(e, rows, count, i, o),
-        Instruction::Bequ { i, t, o } => matched_stripes(e, rows, count, i, o),
+        } => dropped(d),
+        Instruction::Stor { v, w, a, i, k } => all(),
+        Instruction::Jump { t } => all(),
+        Instruction::Bltu { i, t, o } => ordered_stripes(e, i, o),
+        Instruction::Bequ { i, t, o } => matched_stripes(e, i, o),
     }
+}
+
+// The i-th row as a stripe.
+fn row_at(rows: &[u64; 60], i: usize) -> Stripe
+    requires { ⌜ (i < goal.stripesAlong) × Bytes (stripeAt (now rows) i) ⌝ }
+    ensures { λ s. ⌜ s ≡ stripeAt (now (rows .entry)) i ⌝ }
+{
+    let at = i * 6;
+    Stripe {
+        x: rows[at] as u8,
+        a: rows[at + 1] as u8,
+        y: rows[at + 2] as u8,
+        z: rows[at + 3] as u8,
+        plus: rows[at + 4],
+        minus: rows[at + 5],
+    }
+}
+
+// Writes the stripe after the first m rows, and answers how many there are then.
+fn put(rows: &mut [u64; 60], m: usize, s: Stripe) -> usize
+    requires { ⌜ SizedRows (now rows) ⌝ }
+    requires { ⌜ (m < goal.stripesAlong) × goal.Small s ⌝ }
+    ensures { λ r. ⌜ Extends (now (rows .entry)) m (now (rows .exit)) r (s ∷ []) × (r ≡ m + 1) ⌝ }
+{
+    write_row(rows, m, s);
+    m + 1
+}
+
+// Writes what is added as the first rows, and answers how many they are.
+fn put_added(a: Added, rows: &mut [u64; 60]) -> usize
+    requires { ⌜ SizedRows (now rows) ⌝ }
+    requires { ⌜ AddedLimited a ⌝ }
+    ensures { λ r. ⌜ Extends (now (rows .entry)) 0 (now (rows .exit)) r (addedTo a []) × (r ≤ 2) ⌝ }
+{
+    match a {
+        Added::Nothing => 0,
+        Added::One { s } => put(rows, 0, s),
+        Added::Two { s, t } => {
+            let m = put(rows, 0, s);
+            put(rows, m, t)
+        }
+    }
+}
+
+// Writes what is kept of a stripe after the first m rows, and answers how many there are then.
+fn put_kept(k: Kept, s: Stripe, rows: &mut [u64; 60], m: usize) -> usize
+    requires { ⌜ Small greatestBound s ⌝ }
+    requires { ⌜ ShiftLimited k ⌝ }
+    requires { ⌜ SizedRows (now rows) ⌝ }
+    requires { ⌜ m < goal.stripesAlong ⌝ }
+    ensures { λ r. ⌜ Extends (now (rows .entry)) m (now (rows .exit)) r (keptOf k (s ∷ [])) × (r ≤ m + 1) ⌝ }
+{
+    match k {
+        Kept::All => put(rows, m, s),
+        Kept::Without { d } => {
+            if names(s, d) {
+                return m;
+            }
+            put(rows, m, s)
+        }
+        Kept::Shifted { d, up, down } => {
+            let t = shifted(s, d, up, down);
+            if bound_in_limits(t) {
+                return put(rows, m, t);
+            }
+            m
+        }
+    }
+}
+
+// Writes what is kept of the first n rows after the first m new ones, and answers how many there are then.
+fn put_all<'a>(
+    k: Kept,
+    rows: &'a [u64; 60],
+    n: usize,
+    new_rows: &'a mut [u64; 60],
+    m: usize,
+) -> usize
+    requires { ⌜ ShiftLimited k ⌝ }
+    requires { ⌜ Standing (now rows) n ⌝ }
+    requires { ⌜ SizedRows (now «new_rows») ⌝ }
+    requires { ⌜ m ≤ 2 ⌝ }
+    ensures { λ r. ⌜ Extends (now («new_rows» .entry)) m (now («new_rows» .exit)) r (keptOf k (stripesOf (now (rows .entry)) n)) × (r ≤ goal.stripesAlong) ⌝ }
+{
+    let mut r = m;
+    let mut i = 0;
+    while i < n {
+        r = put_kept(k, row_at(rows, i), new_rows, r);
+        i += 1;
+    }
+    r
+}
+
+// Carries the plan out on the first n rows, and answers how many new ones there are.
+pub fn carry_out<'a>(p: Plan, rows: &'a [u64; 60], n: usize, new_rows: &'a mut [u64; 60]) -> usize
+    requires { ⌜ ShiftLimited (p .kept) × AddedLimited (p .added) ⌝ }
+    requires { ⌜ Standing (now rows) n ⌝ }
+    requires { ⌜ SizedRows (now «new_rows») ⌝ }
+    ensures { λ r. ⌜ (stripesOf (now («new_rows» .exit)) r ≡ addedTo (p .added) (keptOf (p .kept) (stripesOf (now (rows .entry)) n))) × SizedRows (now («new_rows» .exit)) × (r ≤ goal.stripesAlong) ⌝ }
+{
+    let a = p.added;
+    let k = p.kept;
+    let m = put_added(a, new_rows);
+    put_all(k, rows, n, new_rows, m)
 }

@@ -1,23 +1,17 @@
 -- The three ways in which a link is added: left out, in the place of a worse one, at the end. Assumes nothing.
 use mathlib.Core.Path.{_≡_, sym}
-use mathlib.Core.Bool.{Bool, true, false, _||_}
+use mathlib.Core.Bool.{true, false}
 use mathlib.Core.List.{List}
 use Prim.Native.Nat.{ℕ, _+_, _*_, _<_, _≤_}
 use native.Mathlib.Omega.{arith}
 use lib.Dec.{leb}
 use lib.ListN.{getD}
 use borrow.Author.Tests.{leb-true, leb-false}
-use Rattle.model.specs.declared.claims.Stripe.{Stripe}
 use Rattle.model.specs.Transfer.{apart}
 use Rattle.goals.specs.Sizes.{stripesAlong}
-use Rattle.goals.specs.Search.{someBelow}
-use Rattle.goals.specs.Links.{SizedLinks, linkAt, withLink, Lasting}
+use Rattle.goals.specs.Links.{SizedLinks, linkAt, withLink, Added}
 use Rattle.goals.proofs.Written.{link-other, link-there}
 use Rattle.goals.proofs.Best.{left-out, written}
-
--- to a lasting test, k' links of l' are k links of l and the link s
-abbrev pub Added : List ℕ → ℕ → List ℕ → ℕ → Stripe → Type 0
-Added l' k' l k s = (p : Stripe → Bool) → Lasting p → someBelow (λ (i : ℕ). p (linkAt l' i)) k' ≡ (someBelow (λ (i : ℕ). p (linkAt l i)) k || p s)
 
 module _ (l : List ℕ) (sized : SizedLinks l) (v u p m : ℕ) where
   module _ (j k : ℕ) (inside : j < k) (ev : getD l (j * 4) 0 ≡ v) (eu : getD l (j * 4 + 1) 0 ≡ u) where

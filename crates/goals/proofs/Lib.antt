@@ -7,3 +7,4 @@ pub mod Best
 pub mod Added
 pub mod Grown
 pub mod Cases
+pub mod Turned

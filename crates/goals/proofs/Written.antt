@@ -13,9 +13,12 @@ use Rattle.goals.specs.Rows.{SizedRows, stripeAt, withRow}
 use Rattle.goals.specs.Links.{SizedLinks, linkAt, withLink}
 
 module _ (m b : ℕ) where
-  -- zeros
+  -- the same number everywhere
+  pub filled : (v : ℕ) → v ≤ b → Numbers m b (replicate m v)
+  filled v e = record { long = length-replicate {A = ℕ} m v; most = λ i h. rw (getD-replicate {A = ℕ} m i v 0 h) e }
+
   pub zeros : Numbers m b (replicate m 0)
-  zeros = record { long = length-replicate {A = ℕ} m 0; most = λ i h. rw (getD-replicate {A = ℕ} m i 0 0 h) (omega arith) }
+  zeros = filled 0 (omega arith)
 
   -- one number written
   pub set-numbers : (l : List ℕ) (j v : ℕ) → v ≤ b → Numbers m b l → Numbers m b (set l j v)
@@ -113,6 +116,20 @@ module _ (l : List ℕ) (j : ℕ) (s : Stripe) where
       )
       refl
 
+  -- six numbers written, each at most b
+  pub row-numbers : (b : ℕ) → s .x ≤ b → s .a ≤ b → s .y ≤ b → s .z ≤ b → s .plus ≤ b → s .minus ≤ b → Numbers (stripesAlong * 6) b l → Numbers (stripesAlong * 6) b (withRow l j s)
+  row-numbers b x a y z plus minus n =
+      let w = stripesAlong * 6 in
+      set-numbers w b r5 (j * 6 + 5) (s .minus) minus
+      (set-numbers w b r4 (j * 6 + 4) (s .plus) plus
+      (set-numbers w b r3 (j * 6 + 3) (s .z) z
+      (set-numbers w b r2 (j * 6 + 2) (s .y) y
+      (set-numbers w b r1 (j * 6 + 1) (s .a) a
+      (set-numbers w b l (j * 6) (s .x) x n)))))
+
+  pub row-sized : s .x ≤ 255 → s .a ≤ 255 → s .y ≤ 255 → s .z ≤ 255 → Small s → SizedRows l → SizedRows (withRow l j s)
+  row-sized x a y z small n = row-numbers greatestPart (omega arith) (omega arith) (omega arith) (omega arith) (small .plus) (small .minus) n
+
   module _ (n : SizedRows l) where
     e1 : length r1 ≡ stripesAlong * 6
     e1 = length-set l (j * 6) (s .x) ∙ n .long
@@ -128,16 +145,6 @@ module _ (l : List ℕ) (j : ℕ) (s : Stripe) where
 
     e5 : length r5 ≡ stripesAlong * 6
     e5 = length-set r4 (j * 6 + 4) (s .plus) ∙ e4
-
-    pub row-sized : s .x ≤ 255 → s .a ≤ 255 → s .y ≤ 255 → s .z ≤ 255 → Small s → SizedRows (withRow l j s)
-    row-sized x a y z small =
-        let w = stripesAlong * 6 in
-        set-numbers w greatestPart r5 (j * 6 + 5) (s .minus) (small .minus)
-        (set-numbers w greatestPart r4 (j * 6 + 4) (s .plus) (small .plus)
-        (set-numbers w greatestPart r3 (j * 6 + 3) (s .z) (omega arith)
-        (set-numbers w greatestPart r2 (j * 6 + 2) (s .y) (omega arith)
-        (set-numbers w greatestPart r1 (j * 6 + 1) (s .a) (omega arith)
-        (set-numbers w greatestPart l (j * 6) (s .x) (omega arith) n)))))
 
     pub stripe-there : j < stripesAlong → stripeAt (withRow l j s) j ≡ s
     stripe-there h =

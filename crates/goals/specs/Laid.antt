@@ -5,20 +5,16 @@ use Rattle.model.specs.Facts.{Facts}
 use Rattle.goals.specs.Sizes.{stripesAlong}
 use Rattle.goals.specs.Ends.{SizedEnds, HasHighs, HasLows}
 use Rattle.goals.specs.Rows.{SizedRows, HasRows}
-use Rattle.goals.specs.Links.{SizedLinks, HasLinks}
 
--- high ends, low ends, n rows and k links hold the facts
-pub record Laid (high low rows : List ℕ) (n : ℕ) (links : List ℕ) (k : ℕ) (f : Facts) : Type 0 where
+-- high ends, low ends and n rows hold the facts
+pub record Laid (high low rows : List ℕ) (n : ℕ) (f : Facts) : Type 0 where
   pub highs : HasHighs high (f .ranges)
   pub lows : HasLows low (f .ranges)
   pub stripes : HasRows rows n (f .stripes)
-  pub linked : HasLinks links k (f .stripes)
 
 -- their sizes
-pub record Sized (high low rows : List ℕ) (n : ℕ) (links : List ℕ) (k : ℕ) : Type 0 where
+pub record Sized (high low rows : List ℕ) (n : ℕ) : Type 0 where
   pub highs : SizedEnds high
   pub lows : SizedEnds low
   pub stripes : SizedRows rows
   pub count : n ≤ stripesAlong
-  pub linked : SizedLinks links
-  pub all : k ≤ stripesAlong

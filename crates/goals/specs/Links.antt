@@ -2,15 +2,15 @@
 -- Of two links between the same variables only the better one is held: a goal that follows by the other follows by it.
 use Prim.Native.Nat.{ℕ, _+_, _*_, _≤_}
 use mathlib.Core.Path.{_≡_}
-use mathlib.Core.Bool.{Bool, true, _&&_}
+use mathlib.Core.Bool.{Bool, true, _&&_, _||_}
 use mathlib.Core.List.{List}
 use lib.ListN.{getD, set}
 use Rattle.model.specs.declared.claims.Stripe.{Stripe}
-use Rattle.model.specs.Lists.{some}
 use Rattle.model.specs.Transfer.{apart}
 use Rattle.model.specs.Follows.{isLink}
 use Rattle.goals.specs.Sizes.{greatestPart, stripesAlong, Numbers}
 use Rattle.goals.specs.Search.{someBelow}
+use Rattle.goals.specs.Rows.{stripeAt}
 
 -- a list of links
 abbrev pub SizedLinks : List ℕ → Type 0
@@ -34,6 +34,14 @@ pub record Better (t s : Stripe) : Type 0 where
 abbrev pub Lasting : (Stripe → Bool) → Type 0
 Lasting p = (s t : Stripe) → Better t s → p s ≡ true → p t ≡ true
 
--- the first k rows hold the links among the stripes: no lasting test tells them apart
-abbrev pub HasLinks : List ℕ → ℕ → List Stripe → Type 0
-HasLinks l k ss = (p : Stripe → Bool) → Lasting p → someBelow (λ (i : ℕ). p (linkAt l i)) k ≡ some (λ (s : Stripe). isLink s && p s) ss
+-- to a lasting test, k' links of l' are k links of l and the link s
+abbrev pub Added : List ℕ → ℕ → List ℕ → ℕ → Stripe → Type 0
+Added l' k' l k s = (p : Stripe → Bool) → Lasting p → someBelow (λ (i : ℕ). p (linkAt l' i)) k' ≡ (someBelow (λ (i : ℕ). p (linkAt l i)) k || p s)
+
+-- the same for a stripe s that may be no link
+abbrev pub Grown : List ℕ → ℕ → List ℕ → ℕ → Stripe → Type 0
+Grown l' k' l k s = (p : Stripe → Bool) → Lasting p → someBelow (λ (i : ℕ). p (linkAt l' i)) k' ≡ (someBelow (λ (i : ℕ). p (linkAt l i)) k || (isLink s && p s))
+
+-- k links of l are the links among the first n rows: no lasting test tells them apart
+abbrev pub Gathered : List ℕ → ℕ → List ℕ → ℕ → Type 0
+Gathered l k rows n = (p : Stripe → Bool) → Lasting p → someBelow (λ (i : ℕ). p (linkAt l i)) k ≡ someBelow (λ (i : ℕ). isLink (stripeAt rows i) && p (stripeAt rows i)) n

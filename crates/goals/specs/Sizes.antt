@@ -3,11 +3,7 @@ use Prim.Native.Nat.{ℕ, _+_, _*_, _≤_, _<_}
 use mathlib.Core.Path.{_≡_}
 use mathlib.Core.List.{List}
 use lib.ListN.{getD, length}
-use Rattle.model.specs.declared.claims.Range.{Range}
 use Rattle.model.specs.declared.claims.Stripe.{Stripe}
-use Rattle.model.specs.Limits.{variables, MAX}
-use Rattle.model.specs.Facts.{lo, hi}
-use Rattle.model.specs.Transfer.{stripe}
 
 -- the greatest plus or minus of a stripe that stands, 2 to the 44th: four times the greatest bound
 abbrev pub greatestPart : ℕ
@@ -39,15 +35,3 @@ pub record Small (s : Stripe) : Type 0 where
 pub record Room (n : ℕ) (g : Stripe) : Type 0 where
   pub plus : g .plus + n * greatestStep ≤ greatestSum
   pub minus : g .minus + n * greatestStep ≤ greatestSum
-
--- the stripe of nothing but zeros, read past the end of a list
-abbrev pub noStripe : Stripe
-noStripe = stripe 0 0 0 0 0 0
-
--- the first n stripes are small
-abbrev pub AllSmall : ℕ → List Stripe → Type 0
-AllSmall n ss = (i : ℕ) → i < n → Small (getD ss i noStripe)
-
--- both ends of every variable are at most MAX
-abbrev pub AllWords : List Range → Type 0
-AllWords rs = (v : ℕ) → v < variables → (lo rs v ≤ MAX) × (hi rs v ≤ MAX)

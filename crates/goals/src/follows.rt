@@ -1,5 +1,6 @@
 // Whether a goal, or a claim, follows from the facts that the arrays hold.
 use crate::ends::end_of;
+use crate::links::gather;
 use crate::links::touches;
 use crate::rows::stands;
 use crate::rows::wide;
@@ -153,7 +154,7 @@ fn linked<'a>(
     false
 }
 
-// Whether the goal follows by the i-th link, in the place of y or of z, and at most `left` more.
+// Whether the goal follows by the i-th link, in the place of y or of z, and at most `left` more. Where y is z one of the two is enough.
 fn through<'a>(
     high: &'a [u64; 18],
     low: u64,
@@ -182,7 +183,7 @@ fn through<'a>(
     let more = plus + scaled(a, links[at + 3]);
     let less = minus + scaled(a, links[at + 2]);
     if v == y {
-        if follows(
+        return follows(
             high,
             low,
             rows,
@@ -196,9 +197,7 @@ fn through<'a>(
             more,
             less,
             left,
-        ) {
-            return true;
-        }
+        );
     }
     if v == z {
         return follows(
@@ -220,30 +219,33 @@ fn through<'a>(
     false
 }
 
-// Whether the goal follows within three links.
+// Whether the goal follows within three links. The links are gathered only for a goal that does not follow at once.
 pub fn goal_follows<'a>(
     high: &'a [u64; 18],
     low: &'a [u64; 18],
     rows: &'a [u64; 60],
     count: usize,
-    links: &'a [u64; 40],
-    all: usize,
     g: Stripe,
 ) -> bool
-    requires { ⌜ Sized (now high) (now low) (now rows) count (now links) all ⌝ }
+    requires { ⌜ Sized (now high) (now low) (now rows) count ⌝ }
     requires { ⌜ Small g ⌝ }
-    ensures { λ r. ⌜ ((f : Facts) → Laid (now (high .entry)) (now (low .entry)) (now (rows .entry)) count (now (links .entry)) all f → r ≡ Follows.follows f greatestLinks g) ⌝ }
+    ensures { λ r. ⌜ ((f : Facts) → Laid (now (high .entry)) (now (low .entry)) (now (rows .entry)) count f → r ≡ Follows.follows f greatestLinks g) ⌝ }
 {
     let bottom = end_of(low, g.x as usize);
     let x = wide(g.x);
     let y = wide(g.y);
     let z = wide(g.z);
+    if at_once(high, bottom, rows, count, x, g.a, y, z, g.plus, g.minus) {
+        return true;
+    }
+    let mut links: [u64; 40] = [0; 40];
+    let all = gather(rows, count, &mut links);
     follows(
         high,
         bottom,
         rows,
         count,
-        links,
+        &links,
         all,
         x,
         g.a,
@@ -261,17 +263,15 @@ pub fn claim_follows<'a>(
     low: &'a [u64; 18],
     rows: &'a [u64; 60],
     count: usize,
-    links: &'a [u64; 40],
-    all: usize,
     c: Claim,
 ) -> bool
-    requires { ⌜ Sized (now high) (now low) (now rows) count (now links) all ⌝ }
+    requires { ⌜ Sized (now high) (now low) (now rows) count ⌝ }
     requires { ⌜ ClaimLimited c ⌝ }
-    ensures { λ r. ⌜ ((f : Facts) → Laid (now (high .entry)) (now (low .entry)) (now (rows .entry)) count (now (links .entry)) all f → r ≡ claimFollows f c) ⌝ }
+    ensures { λ r. ⌜ ((f : Facts) → Laid (now (high .entry)) (now (low .entry)) (now (rows .entry)) count f → r ≡ claimFollows f c) ⌝ }
 {
     match c {
         Claim::Leas { v, least } => least <= end_of(low, v),
         Claim::Most { v, most } => end_of(high, v) <= most,
-        Claim::Strp(g) => goal_follows(high, low, rows, count, links, all, g),
+        Claim::Strp(g) => goal_follows(high, low, rows, count, g),
     }
 }

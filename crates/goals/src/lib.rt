@@ -1,5 +1,5 @@
-// Whether a goal or a claim follows from what is known along an edge. The facts are laid out once for an edge in arrays of numbers, and these are lent to every test along it.
-pub mod ends;
+// Whether a goal or a claim follows from what is known along an edge. The facts stand in arrays of numbers, and these are lent to every test along it.
+mod ends;
 pub mod follows;
-pub mod links;
+mod links;
 pub mod rows;

@@ -2,11 +2,10 @@
 use model::claims::Stripe;
 ghost use mathlib.Core.Path.{_≡_};
 ghost use Prim.Native.Nat.{_≤_, _<_};
-ghost use lib.ListN.{take};
 ghost use Rattle.model.specs.Follows;
 ghost use Rattle.model.specs.Transfer.{stripe};
-ghost use Rattle.goals.specs.Sizes.{stripesAlong, Small, AllSmall, Room};
-ghost use Rattle.goals.specs.Rows.{SizedRows, stripeAt, withRow, HasRows};
+ghost use Rattle.goals.specs.Sizes.{stripesAlong, Small, Room};
+ghost use Rattle.goals.specs.Rows.{SizedRows, stripeAt, withRow};
 ghost use Rattle.goals.specs.Goal;
 
 // A byte as a number of 64 bits.
@@ -17,7 +16,7 @@ pub fn wide(v: u8) -> u64
 }
 
 // Writes the i-th row.
-fn write_row(rows: &mut [u64; 60], i: usize, s: Stripe)
+pub fn write_row(rows: &mut [u64; 60], i: usize, s: Stripe)
     requires { ⌜ SizedRows (now rows) ⌝ }
     requires { ⌜ (i < stripesAlong) × Small s ⌝ }
     ensures { λ r. ⌜ (now (rows .exit) ≡ withRow (now (rows .entry)) i s) × SizedRows (now (rows .exit)) ⌝ }
@@ -33,21 +32,6 @@ fn write_row(rows: &mut [u64; 60], i: usize, s: Stripe)
     rows[at + 3] = z;
     rows[at + 4] = s.plus;
     rows[at + 5] = s.minus;
-}
-
-// The first count stripes as rows.
-pub fn rows_of(stripes: [Stripe; 10], count: usize) -> [u64; 60]
-    requires { ⌜ AllSmall count stripes ⌝ }
-    requires { ⌜ count ≤ stripesAlong ⌝ }
-    ensures { λ r. ⌜ HasRows r count (take count stripes) × SizedRows r ⌝ }
-{
-    let mut rows: [u64; 60] = [0; 60];
-    let mut i = 0;
-    while i < count {
-        write_row(&mut rows, i, stripes[i]);
-        i += 1;
-    }
-    rows
 }
 
 // Whether the i-th row stands for the goal.

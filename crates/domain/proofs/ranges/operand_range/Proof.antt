@@ -1,6 +1,6 @@
+-- A variable by its ends, a number by itself. Assumes nothing.
 use borrow.Author.Needs.{needs}
-use mathlib.Core.Path.{subst, sym}
-use native.Mathlib.Omega.{arith}
+use mathlib.Core.Path.{sym, subst}
 use Rattle.domain.specs.Known.{Word}
 use Rattle.domain.proofs.ranges.operand_range.Statement.{statement}
 use Rattle.domain.proofs.ranges.operand_range.Tie as tie
@@ -8,15 +8,10 @@ use Rattle.domain.proofs.ranges.operand_range.Tie as tie
 enum-known-o : tie.Need-enum-known-o
 enum-known-o c = search needs
 
-mul-result : tie.Need-mul-result
-mul-result c =
+range-at-requires : tie.Need-range-at-requires
+range-at-requires c κs =
     let h = rw (c .before .o .given .1) at (c .before .before .before .pre .1) in
-    omega arith
-
-array-copy-out-result : tie.Need-array-copy-out-result
-array-copy-out-result c =
-    let h = rw (c .before .o .given .1) at (c .before .before .before .pre .1) in
-    omega arith
+    (c .before .before .before .pre .0, h)
 
 enum-known-o-2 : tie.Need-enum-known-o-2
 enum-known-o-2 c = search needs
@@ -28,7 +23,7 @@ exactly-requires : tie.Need-exactly-requires
 exactly-requires c κs = search needs
 
 returns : tie.Need-returns
-returns c = (rw (c .before .before .o .given .1), c .before .before .before .before .pre .0 _)
+returns c = (rw (c .before .before .o .given .1) (c .range-at .ensures .0), c .range-at .ensures .1)
 
 returns-2 : tie.Need-returns-2
 returns-2 c =
@@ -40,8 +35,7 @@ operand-range-spec =
     tie.close
     (tie.spec
     enum-known-o
-    mul-result
-    array-copy-out-result
+    range-at-requires
     enum-known-o-2
     cast-exactly
     exactly-requires

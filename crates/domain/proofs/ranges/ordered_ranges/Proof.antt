@@ -1,3 +1,4 @@
+-- The edge chooses the rule. Assumes nothing.
 use borrow.Author.Needs.{needs}
 use Rattle.domain.proofs.ranges.ordered_ranges.Statement.{statement}
 use Rattle.domain.proofs.ranges.ordered_ranges.Tie as tie

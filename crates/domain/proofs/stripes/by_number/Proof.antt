@@ -1,14 +1,12 @@
+-- The test is that of the definition. Assumes nothing.
 use borrow.Author.Needs.{needs}
 use borrow.Author.Tests.{eq-eqb, ne-eqb}
-use mathlib.Core.Path.{subst, sym}
+use mathlib.Core.Path.{sym, subst}
 use native.Mathlib.Omega.{arith}
 use Rattle.model.specs.Limits.{greatestBound}
 use Rattle.domain.specs.Known.{Small}
 use Rattle.domain.proofs.stripes.by_number.Statement.{statement}
 use Rattle.domain.proofs.stripes.by_number.Tie as tie
-
-cast-all-shifted : tie.Need-cast-all-shifted
-cast-all-shifted c = search needs
 
 all-shifted-requires : tie.Need-all-shifted-requires
 all-shifted-requires c κs = search needs
@@ -26,7 +24,7 @@ two-and-dropped-requires : tie.Need-two-and-dropped-requires
 two-and-dropped-requires c κs =
     let first : Small greatestBound (c .before .apart .result) = subst (Small greatestBound) (sym (c .before .apart .ensures)) (record { plus = omega arith; minus = omega arith }) in
     let second : Small greatestBound (c .apart2 .result) = subst (Small greatestBound) (sym (c .apart2 .ensures)) (record { plus = omega arith; minus = omega arith }) in
-    ((first, second), (c .before .before .before .pre .0, (omega arith, omega arith)))
+    ((first, second), omega arith)
 
 returns-2 : tie.Need-returns-2
 returns-2 c = rw (ne-eqb _ _ (c .before .before .before .if1 .left)) (rw (c .before .before .apart .ensures, c .before .apart2 .ensures) at (c .two-and-dropped .ensures))
@@ -35,7 +33,6 @@ pub by-number-spec : {M : Type 1} → statement M
 by-number-spec =
     tie.close
     (tie.spec
-    cast-all-shifted
     all-shifted-requires
     returns
     apart-requires

@@ -1,3 +1,4 @@
+-- Each arm is the clause of the definition. Assumes nothing.
 use borrow.Author.Needs.{needs}
 use Rattle.domain.proofs.stripes.product_stripes.Statement.{statement}
 use Rattle.domain.proofs.stripes.product_stripes.Tie as tie

@@ -1,12 +1,12 @@
--- The test of `scaled_stripes` is the definition's, so the number fits a scale. Assumes nothing.
+-- The test is that of the definition, so the number fits a scale. Assumes nothing.
 use borrow.Author.Needs.{needs}
 use borrow.Author.Tests.{leb-true}
-use lib.Dec.{eqb, leb}
-use mathlib.Core.Bool.{_&&_, not}
-use mathlib.Core.Path.{subst, sym}
+use mathlib.Core.Path.{sym, subst}
+use mathlib.Core.Bool.{not, _&&_}
 use native.Mathlib.Omega.{arith}
-use Rattle.model.proofs.Tests.{and-left, and-right}
+use lib.Dec.{eqb, leb}
 use Rattle.model.specs.Limits.{greatestBound, greatestScale}
+use Rattle.model.proofs.Tests.{and-left, and-right}
 use Rattle.domain.specs.Known.{Small}
 use Rattle.domain.proofs.stripes.scaled_stripes.Statement.{statement}
 use Rattle.domain.proofs.stripes.scaled_stripes.Tie as tie
@@ -21,7 +21,7 @@ stripe-requires : tie.Need-stripe-requires
 stripe-requires c κs = search needs
 
 one-and-dropped-requires : tie.Need-one-and-dropped-requires
-one-and-dropped-requires c κs = (subst (Small greatestBound) (sym (c .stripe .ensures)) (record { plus = omega arith; minus = omega arith }), (c .before .before .pre .0, (omega arith, omega arith)))
+one-and-dropped-requires c κs = (subst (Small greatestBound) (sym (c .stripe .ensures)) (record { plus = omega arith; minus = omega arith }), omega arith)
 
 returns : tie.Need-returns
 returns c = rw (c .before .before .if1 .taken) (rw (c .before .stripe .ensures) at (c .one-and-dropped .ensures))

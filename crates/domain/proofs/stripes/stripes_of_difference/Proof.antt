@@ -1,12 +1,10 @@
+-- The test is that of the definition. Assumes nothing.
 use borrow.Author.Needs.{needs}
 use Rattle.domain.proofs.stripes.stripes_of_difference.Statement.{statement}
 use Rattle.domain.proofs.stripes.stripes_of_difference.Tie as tie
 
-mul-difference-fits : tie.Need-mul-difference-fits
-mul-difference-fits c = search needs
-
-array-copy-out-difference-fits : tie.Need-array-copy-out-difference-fits
-array-copy-out-difference-fits c = search needs
+range-at-requires : tie.Need-range-at-requires
+range-at-requires c κs = search needs
 
 operand-range-requires : tie.Need-operand-range-requires
 operand-range-requires c κs = search needs
@@ -18,20 +16,19 @@ difference-stripes-requires : tie.Need-difference-stripes-requires
 difference-stripes-requires c κs = search needs
 
 returns : tie.Need-returns
-returns c = rw (← c .before .before .before .operand-range .ensures .0, ← c .before .before .difference-fits .ensures, c .before .if1 .taken) (c .difference-stripes .ensures)
+returns c = rw (← c .before .before .before .operand-range .ensures .0, ← c .before .before .before .before .range-at .ensures .0, ← c .before .before .difference-fits .ensures, c .before .if1 .taken) (c .difference-stripes .ensures)
 
 dropped-requires : tie.Need-dropped-requires
 dropped-requires c κs = search needs
 
 returns-2 : tie.Need-returns-2
-returns-2 c = rw (← c .before .before .before .operand-range .ensures .0, ← c .before .before .difference-fits .ensures, c .before .if1 .left) (c .dropped .ensures)
+returns-2 c = rw (← c .before .before .before .operand-range .ensures .0, ← c .before .before .before .before .range-at .ensures .0, ← c .before .before .difference-fits .ensures, c .before .if1 .left) (c .dropped .ensures)
 
 pub stripes-of-difference-spec : {M : Type 1} → statement M
 stripes-of-difference-spec =
     tie.close
     (tie.spec
-    mul-difference-fits
-    array-copy-out-difference-fits
+    range-at-requires
     operand-range-requires
     difference-fits-requires
     difference-stripes-requires

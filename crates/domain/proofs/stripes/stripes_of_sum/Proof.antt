@@ -1,37 +1,34 @@
+-- The test is that of the definition. Assumes nothing.
 use borrow.Author.Needs.{needs}
 use Rattle.domain.proofs.stripes.stripes_of_sum.Statement.{statement}
 use Rattle.domain.proofs.stripes.stripes_of_sum.Tie as tie
 
-mul-sum-fits : tie.Need-mul-sum-fits
-mul-sum-fits c = search needs
-
-array-copy-out-sum-fits : tie.Need-array-copy-out-sum-fits
-array-copy-out-sum-fits c = search needs
+range-at-requires : tie.Need-range-at-requires
+range-at-requires c κs = search needs
 
 operand-range-requires : tie.Need-operand-range-requires
 operand-range-requires c κs = search needs
 
 sum-fits-requires : tie.Need-sum-fits-requires
-sum-fits-requires c κs = (c .before .before .pre .0 _, c .operand-range .ensures .1)
+sum-fits-requires c κs = search needs
 
 sum-stripes-requires : tie.Need-sum-stripes-requires
 sum-stripes-requires c κs = search needs
 
 returns : tie.Need-returns
-returns c = rw (← c .before .before .before .operand-range .ensures .0, ← c .before .before .sum-fits .ensures, c .before .if1 .taken) (c .sum-stripes .ensures)
+returns c = rw (← c .before .before .before .operand-range .ensures .0, ← c .before .before .before .before .range-at .ensures .0, ← c .before .before .sum-fits .ensures, c .before .if1 .taken) (c .sum-stripes .ensures)
 
 dropped-requires : tie.Need-dropped-requires
 dropped-requires c κs = search needs
 
 returns-2 : tie.Need-returns-2
-returns-2 c = rw (← c .before .before .before .operand-range .ensures .0, ← c .before .before .sum-fits .ensures, c .before .if1 .left) (c .dropped .ensures)
+returns-2 c = rw (← c .before .before .before .operand-range .ensures .0, ← c .before .before .before .before .range-at .ensures .0, ← c .before .before .sum-fits .ensures, c .before .if1 .left) (c .dropped .ensures)
 
 pub stripes-of-sum-spec : {M : Type 1} → statement M
 stripes-of-sum-spec =
     tie.close
     (tie.spec
-    mul-sum-fits
-    array-copy-out-sum-fits
+    range-at-requires
     operand-range-requires
     sum-fits-requires
     sum-stripes-requires

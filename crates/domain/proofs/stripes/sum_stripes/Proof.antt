@@ -1,5 +1,6 @@
+-- Each arm is the clause of the definition. Assumes nothing.
 use borrow.Author.Needs.{needs}
-use mathlib.Core.Path.{subst, sym}
+use mathlib.Core.Path.{sym, subst}
 use native.Mathlib.Omega.{arith}
 use Rattle.model.specs.Limits.{greatestBound}
 use Rattle.domain.specs.Known.{Small}
@@ -17,11 +18,11 @@ returns c = rw (c .before .before .before .o .given .1, c .before .if1 .taken) (
 
 stripe-requires : tie.Need-stripe-requires
 stripe-requires c κs =
-    let h = rw (c .before .before .o .given .1) at (c .before .before .before .before .pre .1 .1 .operand) in
+    let h = rw (c .before .before .o .given .1) at (c .before .before .before .before .pre .operand) in
     omega arith
 
 one-and-dropped-requires : tie.Need-one-and-dropped-requires
-one-and-dropped-requires c κs = (subst (Small greatestBound) (sym (c .stripe .ensures)) (record { plus = omega arith; minus = omega arith }), (c .before .before .before .before .before .pre .0, (omega arith, omega arith)))
+one-and-dropped-requires c κs = (subst (Small greatestBound) (sym (c .stripe .ensures)) (record { plus = omega arith; minus = omega arith }), omega arith)
 
 enum-known-o-2 : tie.Need-enum-known-o-2
 enum-known-o-2 c = search needs

@@ -1,22 +1,20 @@
 -- `follows`, `linked` and `through` meet their contracts. The measure is three for each link left, and one more for each of the two calls between. Assumes nothing.
 use borrow.Author.Needs.{needs}
 use mathlib.Core.Path.{_≡_, sym, subst, _∙_}
-use mathlib.Core.Bool.{Bool, false, _&&_}
+use mathlib.Core.Bool.{Bool, false}
 use mathlib.Core.List.{List}
 use mathlib.Core.Logic.{⊎-elim}
 use native.Mathlib.Omega.{arith}
-use lib.Dec.{eqb}
-use lib.ListN.{getD}
 use Prim.Native.Nat.{ℕ, _+_, _*_, _-_, _≤_, _<_}
 use borrow.Fn.Kinds.{In}
 use borrow.Fn.PlainCycle.{Measures, is, falls, and}
 use Rattle.model.specs.declared.claims.Stripe.{Stripe}
 use Rattle.model.specs.Transfer.{stripe as goal}
-use Rattle.model.specs.Follows.{overY}
 use Rattle.goals.specs.Links.{linkAt}
 use Rattle.goals.specs.Goal as listed
 use Rattle.goals.specs.Goal.{atOnce, byLink, bySomeLink}
 use Rattle.goals.proofs.Search.{below-hit, below-none, below-miss}
+use Rattle.goals.proofs.Turned.{once-turned, follows-turned}
 use Rattle.goals.proofs.Cases as cases
 use Rattle.goals.proofs.follows.follows.Reads as follows
 use Rattle.goals.proofs.follows.follows.Kinds as follows-kinds
@@ -209,22 +207,12 @@ through-follows-requires t c κs =
 
 through-returns : (t : ℕ) → through-lts.Need-returns (through-claims t) (through-at t) through.Post
 through-returns t c =
-    let a = c .before .before .before .before .before .before .before .before .before .args in
+    let a = c .before .before .before .before .before .before .before .before .args in
     let f : Stripe → Bool = rest (a .high .now) (a .low) (a .rows .now) (a .count) (a .links .now) (a .all) (a .left) in
-    sym (cases.by-y f (goal (a .x) (a .a) (a .y) (a .z) (a .plus) (a .minus)) (linkAt (a .links .now) (a .i)) (c .before .before .if1 .taken)
-    (sym (cases.moved-y f (goal (a .x) (a .a) (a .y) (a .z) (a .plus) (a .minus)) (linkAt (a .links .now) (a .i)) _ _ (c .before .before .before .before .before .scaled .ensures .0) (c .before .before .before .scaled2 .ensures .0)) ∙ sym (c .before .follows .ensures) ∙ c .if2 .taken))
-
--- where the test of y is past, it failed
-past-y : (t : ℕ) (c : through-lts.Joined1 (through-claims t) (through-at t) through.Post) →
-    let a = c .before .before .before .before .before .before .before .args in
-    (eqb (getD (a .links .now) (a .i * 4) 0) (a .y) && rest (a .high .now) (a .low) (a .rows .now) (a .count) (a .links .now) (a .all) (a .left) (overY (linkAt (a .links .now) (a .i)) (goal (a .x) (a .a) (a .y) (a .z) (a .plus) (a .minus)))) ≡ false
-past-y t c =
-    let a = c .before .before .before .before .before .before .before .args in
-    let f : Stripe → Bool = rest (a .high .now) (a .low) (a .rows .now) (a .count) (a .links .now) (a .all) (a .left) in
-    ⊎-elim
-    (λ w. cases.past-same f (goal (a .x) (a .a) (a .y) (a .z) (a .plus) (a .minus)) (linkAt (a .links .now) (a .i)) (w .0 .taken) (sym (cases.moved-y f (goal (a .x) (a .a) (a .y) (a .z) (a .plus) (a .minus)) (linkAt (a .links .now) (a .i)) _ _ (c .before .before .before .scaled .ensures .0) (c .before .scaled2 .ensures .0)) ∙ sym (w .1 .ensures) ∙ w .2 .left))
-    (λ w. cases.past-other f (goal (a .x) (a .a) (a .y) (a .z) (a .plus) (a .minus)) (linkAt (a .links .now) (a .i)) (w .left))
-    (c .if1 .came)
+    let turns = follows-turned (a .x) (a .a) (atOnce (a .high .now) (a .low) (a .rows .now) (a .count)) (once-turned (a .x) (a .a) (a .high .now) (a .low) (a .rows .now) (a .count)) (a .links .now) (a .all) (a .left) in
+    c .follows .ensures
+    ∙ cases.moved-y f (goal (a .x) (a .a) (a .y) (a .z) (a .plus) (a .minus)) (linkAt (a .links .now) (a .i)) _ _ (c .before .before .before .before .scaled .ensures .0) (c .before .before .scaled2 .ensures .0)
+    ∙ sym (cases.by-y f (goal (a .x) (a .a) (a .y) (a .z) (a .plus) (a .minus)) (linkAt (a .links .now) (a .i)) (c .before .if1 .taken) (cases.either-place f (goal (a .x) (a .a) (a .y) (a .z) (a .plus) (a .minus)) (linkAt (a .links .now) (a .i)) turns))
 
 through-follows-requires-2 : (t : ℕ) → through-lts.Need-follows-requires-2 (through-claims t) (through-at t) through.Post
 through-follows-requires-2 t c κs =
@@ -235,14 +223,15 @@ through-returns-2 : (t : ℕ) → through-lts.Need-returns-2 (through-claims t) 
 through-returns-2 t c =
     let a = c .before .before .before .before .before .before .before .before .before .args in
     let f : Stripe → Bool = rest (a .high .now) (a .low) (a .rows .now) (a .count) (a .links .now) (a .all) (a .left) in
-    sym (cases.by-z f (goal (a .x) (a .a) (a .y) (a .z) (a .plus) (a .minus)) (linkAt (a .links .now) (a .i)) (past-y t (c .before .before)) (c .before .if3 .taken)
-    ∙ sym (cases.moved-z f (goal (a .x) (a .a) (a .y) (a .z) (a .plus) (a .minus)) (linkAt (a .links .now) (a .i)) _ _ (c .before .before .before .before .before .scaled .ensures .0) (c .before .before .before .scaled2 .ensures .0)) ∙ sym (c .follows2 .ensures))
+    c .follows2 .ensures
+    ∙ cases.moved-z f (goal (a .x) (a .a) (a .y) (a .z) (a .plus) (a .minus)) (linkAt (a .links .now) (a .i)) _ _ (c .before .before .before .before .before .scaled .ensures .0) (c .before .before .before .scaled2 .ensures .0)
+    ∙ sym (cases.by-z f (goal (a .x) (a .a) (a .y) (a .z) (a .plus) (a .minus)) (linkAt (a .links .now) (a .i)) (c .before .before .if1 .left) (c .before .if2 .taken))
 
 through-returns-3 : (t : ℕ) → through-lts.Need-returns-3 (through-claims t) (through-at t) through.Post
 through-returns-3 t c =
     let a = c .before .before .before .before .before .before .before .before .args in
     let f : Stripe → Bool = rest (a .high .now) (a .low) (a .rows .now) (a .count) (a .links .now) (a .all) (a .left) in
-    sym (cases.by-neither f (goal (a .x) (a .a) (a .y) (a .z) (a .plus) (a .minus)) (linkAt (a .links .now) (a .i)) (past-y t (c .before)) (c .if3 .left))
+    sym (cases.by-neither f (goal (a .x) (a .a) (a .y) (a .z) (a .plus) (a .minus)) (linkAt (a .links .now) (a .i)) (c .before .if1 .left) (c .if2 .left))
 
 pub +follows+linked+through-spec : {M : Type 1} → statement M
 +follows+linked+through-spec =

@@ -3,7 +3,9 @@ use native.Mathlib.Omega.{arith}
 use mathlib.Core.Path.{sym, ap, _∙_}
 use Rattle.model.specs.Limits.{greatestLinks}
 use Rattle.model.specs.Facts.{lo}
-use Rattle.goals.proofs.Agrees.{follows-agrees, together}
+use Rattle.goals.specs.Sizes.{greatestPart}
+use Rattle.goals.proofs.Written.{zeros}
+use Rattle.goals.proofs.Agrees.{once-enough, follows-agrees, together}
 use borrow.Author.Needs.{needs}
 use Rattle.goals.proofs.follows.goal_follows.Statement.{statement}
 use Rattle.goals.proofs.follows.goal_follows.Tie as tie
@@ -23,23 +25,46 @@ wide-requires-2 c κs = search needs
 wide-requires-3 : tie.Need-wide-requires-3
 wide-requires-3 c κs = search needs
 
-follows-requires : tie.Need-follows-requires
-follows-requires c κs =
-    let sized = c .before .before .before .before .before .pre .0 in (
-      record { highs = sized .highs; bottom = c .before .before .before .end-of .ensures .1; stripes = sized .stripes; count = sized .count },
-      (record { linked = sized .linked; all = sized .all }, omega arith),
-    )
+at-once-requires : tie.Need-at-once-requires
+at-once-requires c κs = search needs
 
 returns : tie.Need-returns
 returns c f laid =
-    let a = c .before .before .before .before .before .before .args in
-    let low = c .before .before .before .before .end-of in
-    let x = c .before .before .before .wide in
-    let y = c .before .before .wide2 in
-    let z = c .before .wide3 in
+    let a = c .before .before .before .before .before .before .before .args in
+    let low = c .before .before .before .before .before .end-of in
+    let x = c .before .before .before .before .wide in
+    let y = c .before .before .before .wide2 in
+    let z = c .before .before .wide3 in
+    sym (sym (together f greatestLinks (a .g) (x .result) (y .result) (z .result) (x .ensures .0) (y .ensures .0) (z .ensures .0))
+    ∙ once-enough f (a .high .now) (low .result) (x .result) (a .g .a) (a .rows .now) (a .count)
+    (laid .highs) (low .ensures .0 ∙ laid .lows (a .g .x) ∙ ap (lo (f .ranges)) (sym (x .ensures .0))) (laid .stripes)
+    greatestLinks (y .result) (z .result) (a .g .plus) (a .g .minus) (sym (c .before .at-once .ensures) ∙ c .if1 .taken))
+
+gather-requires : tie.Need-gather-requires
+gather-requires c κs =
+    let sized = c .before .before .before .before .before .before .before .before .pre .0 in
+    (sized .stripes, (zeros 40 greatestPart, sized .count))
+
+follows-requires : tie.Need-follows-requires
+follows-requires c κs =
+    let sized = c .before .before .before .before .before .before .before .before .before .before .pre .0 in
+    let found = c .before .gather .ensures in (
+      record { highs = sized .highs; bottom = c .before .before .before .before .before .before .before .before .end-of .ensures .1; stripes = sized .stripes; count = sized .count },
+      (record { linked = found .1; all = found .2 }, omega arith),
+    )
+
+returns-2 : tie.Need-returns-2
+returns-2 c f laid =
+    let a = c .before .before .before .before .before .before .before .before .before .before .before .args in
+    let low = c .before .before .before .before .before .before .before .before .before .end-of in
+    let x = c .before .before .before .before .before .before .before .before .wide in
+    let y = c .before .before .before .before .before .before .before .wide2 in
+    let z = c .before .before .before .before .before .before .wide3 in
+    let found = c .before .before .gather in
     c .follows .ensures
-    ∙ follows-agrees f (a .high .now) (low .result) (x .result) (a .g .a) (a .rows .now) (a .count) (a .links .now) (a .all)
-    (laid .highs) (low .ensures .0 ∙ laid .lows (a .g .x) ∙ ap (lo (f .ranges)) (sym (x .ensures .0))) (laid .stripes) (laid .linked)
+    ∙ follows-agrees f (a .high .now) (low .result) (x .result) (a .g .a) (a .rows .now) (a .count)
+    (laid .highs) (low .ensures .0 ∙ laid .lows (a .g .x) ∙ ap (lo (f .ranges)) (sym (x .ensures .0))) (laid .stripes)
+    (found .last .1 .1 .0) (found .result) (found .ensures .0)
     greatestLinks (y .result) (z .result) (a .g .plus) (a .g .minus)
     ∙ together f greatestLinks (a .g) (x .result) (y .result) (z .result) (x .ensures .0) (y .ensures .0) (z .ensures .0)
 
@@ -52,5 +77,8 @@ goal-follows-spec =
     wide-requires
     wide-requires-2
     wide-requires-3
+    at-once-requires
+    returns
+    gather-requires
     follows-requires
-    returns)
+    returns-2)

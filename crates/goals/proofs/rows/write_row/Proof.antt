@@ -82,7 +82,7 @@ returns c =
     let z = c .wide4 .ensures in (
       rw (x .0, b .0, y .0, z .0) refl,
       rw (x .0, b .0, y .0, z .0)
-          (row-sized (a .rows .now) (a .i) (a .s) (start .pre .0) (omega (arith, x .0, x .1)) (omega (arith, b .0, b .1)) (omega (arith, y .0, y .1)) (omega (arith, z .0, z .1)) (start .pre .1 .1)),
+          (row-sized (a .rows .now) (a .i) (a .s) (omega (arith, x .0, x .1)) (omega (arith, b .0, b .1)) (omega (arith, y .0, y .1)) (omega (arith, z .0, z .1)) (start .pre .1 .1) (start .pre .0)),
     )
 
 pub write-row-spec : {M : Type 1} → statement M

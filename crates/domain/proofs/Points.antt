@@ -1,0 +1,97 @@
+-- The arrays of a point with a claim more, and what the tests of goals ask of arrays. Assumes nothing.
+use mathlib.Core.Path.{_≡_, refl, ap, sym, subst, _∙_}
+use mathlib.Core.Bool.{Bool, true}
+use mathlib.Core.List.{List}
+use Prim.Native.Nat.{ℕ, _+_, _*_, _≤_, _<_}
+use native.Mathlib.Decide.{ℕ-discrete}
+use native.Mathlib.Omega.{arith}
+use lib.Dec.{leb, ltb}
+use lib.ListN.{length, set, getD}
+use borrow.Author.Tests.{leb-true}
+use Rattle.model.specs.declared.claims.Range.{Range}
+use Rattle.model.specs.declared.claims.Stripe.{Stripe}
+use Rattle.model.specs.Limits.{registers, variables, MAX, greatestBound, greatestStripes}
+use Rattle.model.specs.Facts.{registerRange, sizeRange, unclaimedRange, unclaimed, lo, hi, nonEmpty}
+use Rattle.model.proofs.Tests.{cond-cases, every-below}
+use Rattle.model.proofs.Limits.{StripeLimited}
+use Rattle.goals.specs.Sizes.{stripesAlong, Numbers}
+use Rattle.goals.specs.Ends.{SizedEnds}
+use Rattle.goals.specs.Rows.{SizedRows, stripeAt, withRow}
+use Rattle.goals.specs.Laid.{Laid, Sized}
+use Rattle.goals.proofs.Written.{set-numbers, row-numbers, stripe-there, stripe-other}
+use Rattle.domain.specs.Known.{rangesOf, stripesOf, known, Ends, Bytes, Standing, AtPoint, AlongEdge}
+use Rattle.domain.proofs.Held.{low-held, high-held, rows-held}
+
+-- no unclaimed range reaches above a word
+pub unclaimed-top : (v : ℕ) → unclaimedRange v .hi ≤ MAX
+unclaimed-top v = cond-cases (λ (r : Range). r .hi ≤ MAX) (ltb v registers) registerRange sizeRange (λ e. omega arith) (λ e. omega arith)
+
+-- as many low ends as high ones
+pub ends-even : (low high : List ℕ) → Ends low high → length low ≡ length high
+ends-even low high h = h .lows .long ∙ sym (h .highs .long)
+
+pub standing-sized : (rows : List ℕ) (n : ℕ) → Standing rows n → SizedRows rows
+standing-sized rows n h = record { long = h .parts .long; most = λ i l. omega (arith, h .parts .most i l) }
+
+-- a point with no claim yet
+pub point-none : (low high rows : List ℕ) → Ends low high → Numbers (stripesAlong * 6) greatestBound rows → AtPoint low high rows 0
+point-none low high rows ends parts = record { ends = ends; stripes = record { few = omega arith; parts = parts; bytes = λ i h. absurd (omega arith) } }
+
+pub known-none : (low high rows : List ℕ) → rangesOf low high ≡ unclaimed .ranges → known low high rows 0 ≡ unclaimed
+unfolding stripesOf
+known-none low high rows e = rw e refl
+
+-- one more claim
+module _ (low high rows : List ℕ) (n : ℕ) (at : AtPoint low high rows n) where
+  pub point-low : (v e : ℕ) → e ≤ MAX → AtPoint (set low v e) high rows n
+  point-low v e h = record { ends = record { lows = set-numbers variables MAX low v e h (at .ends .lows); highs = at .ends .highs }; stripes = at .stripes }
+
+  pub point-high : (v e : ℕ) → e ≤ MAX → AtPoint low (set high v e) rows n
+  point-high v e h = record { ends = record { lows = at .ends .lows; highs = set-numbers variables MAX high v e h (at .ends .highs) }; stripes = at .stripes }
+
+  module _ (s : Stripe) (limits : StripeLimited s) (room : n + 1 ≤ greatestStripes) where
+    byte : Bytes s
+    byte = record { x = omega (arith, limits .x); a = omega (arith, limits .scale); y = omega (arith, limits .y); z = omega (arith, limits .z) }
+
+    bytes : (i : ℕ) → i < n + 1 → Bytes (stripeAt (withRow rows n s) i)
+    bytes i h = go (ℕ-discrete i n)
+      where
+        go : Dec (i ≡ n) → Bytes (stripeAt (withRow rows n s) i)
+        go (yes e) = subst Bytes (sym (ap (stripeAt (withRow rows n s)) e ∙ stripe-there rows n s (standing-sized rows n (at .stripes)) (omega arith))) byte
+        go (no d) = subst Bytes (sym (stripe-other rows n s i d)) (at .stripes .bytes i (omega arith))
+
+    pub point-row : AtPoint low high (withRow rows n s) (n + 1)
+    point-row = record {
+      ends = at .ends;
+      stripes = record {
+        few = room;
+        parts = row-numbers rows n s greatestBound (omega (arith, limits .x)) (omega (arith, limits .scale)) (omega (arith, limits .y)) (omega (arith, limits .z)) (limits .plus) (limits .minus) (at .stripes .parts);
+        bytes = bytes;
+      };
+    }
+
+  -- a point's own arrays, as the tests of goals ask
+  pub point-sized : Sized high low rows n
+  point-sized = record { highs = at .ends .highs; lows = at .ends .lows; stripes = standing-sized rows n (at .stripes); count = omega (arith, at .stripes .few) }
+
+-- along a possible edge low ends are values of a register too
+pub possible-low : (low high : List ℕ) → length low ≡ variables → SizedEnds high → nonEmpty (rangesOf low high) ≡ true → SizedEnds low
+unfolding nonEmpty
+possible-low low high long highs e = record { long = long; most = λ v h. go v h }
+  where
+    even : length low ≡ length high
+    even = long ∙ sym (highs .long)
+
+    has : ℕ → Bool
+    has u = leb (lo (rangesOf low high) u) (hi (rangesOf low high) u)
+
+    go : (v : ℕ) → v < variables → getD low v 0 ≤ MAX
+    go v h = omega (arith, low-held low high v even, high-held low high v even, highs .most v h, leb-true (lo (rangesOf low high) v) (hi (rangesOf low high) v) (every-below has variables e v h))
+
+-- the arrays along a possible edge, as the tests of goals ask
+pub edge-sized : (low high rows : List ℕ) (n : ℕ) → AlongEdge low high rows n → nonEmpty (rangesOf low high) ≡ true → Sized high low rows n
+edge-sized low high rows n at e = record { highs = at .highs; lows = possible-low low high (at .lows) (at .highs) e; stripes = at .stripes; count = at .few }
+
+-- the arrays hold what they know
+pub known-laid : (low high rows : List ℕ) (n : ℕ) → length low ≡ length high → Laid high low rows n (known low high rows n)
+known-laid low high rows n even = record { highs = λ v. sym (high-held low high v even); lows = λ v. sym (low-held low high v even); stripes = rows-held rows n }
