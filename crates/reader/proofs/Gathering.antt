@@ -1,13 +1,25 @@
 -- Claims gathered from lines, one line at a time. Assumes nothing.
-use mathlib.Core.Path.{_≡_, refl, ap}
+use mathlib.Core.Path.{_≡_, refl, ap, _∙_}
 use mathlib.Core.List.{List, [], _∷_, _++_}
 use Prim.Native.Nat.{ℕ, zero, suc, _+_, _≤_, _<_}
+use native.Mathlib.Nat.{not-suc-le-zero}
 use native.Mathlib.Omega.{arith}
 use native.Mathlib.Decide.{ℕ-discrete}
+use lib.ListN.{replicate}
 use Rattle.model.specs.declared.claims.Claim.{Claim}
+use Rattle.model.specs.declared.claims.Line.{Line}
+use Rattle.model.specs.declared.claims.Line.the-variants.{Refused as refusedLine, Claim as claimLine, Instruction as instructionLine}
+use Rattle.model.specs.Limits.{greatestBound}
 use Rattle.model.specs.Facts.{Facts, unclaimed, withClaim, withClaims, factsOf}
 use Rattle.model.specs.Listing.{stripesAmong}
+use Rattle.model.proofs.Limits.{LineLimited, read-limited}
+use Rattle.goals.proofs.Written.{zeros}
+use Rattle.domain.specs.Known.{rangesOf, stripesOf, known, Standing}
+use Rattle.decoded.specs.Rows.{rowAt}
+use Rattle.decoded.specs.Decoded.{lineFrom, kept}
 use Rattle.reader.specs.Scan.{lineRead, claimOn, claimsIn}
+use Rattle.reader.specs.Kept.{Kept}
+use Rattle.reader.proofs.Keeping.{kept-limited}
 use Rattle.reader.proofs.Scanning.{stripes-cons}
 
 pub claims-next : (s : List ℕ) (from n : ℕ) → claimsIn s from (suc n) ≡ claimsIn s from n ++ claimOn (lineRead s (from + n))
@@ -42,6 +54,26 @@ facts-append xs ys = with-append _ xs ys
 pub facts-none : factsOf [] ≡ unclaimed
 unfolding factsOf
 facts-none = refl
+
+-- arrays that claim nothing know what no claim states
+pub facts-start : (low high stripes s : List ℕ) (from : ℕ) → rangesOf low high ≡ unclaimed .ranges → known low high stripes 0 ≡ factsOf (claimsIn s from 0)
+unfolding stripesOf
+facts-start low high stripes s from e = rw (claims-none s from, facts-none, e) refl
+
+-- no stripe stands among zeros
+pub none-standing : Standing (replicate 60 0) 0
+none-standing = record { few = omega arith; parts = zeros 60 greatestBound; bytes = λ i h. absurd (not-suc-le-zero h) }
+
+-- a line that is looked up holds the claim of the line that was read
+pub line-held : (s rows : List ℕ) (n k : ℕ) (l : Line) → Kept s rows n → k < n → l ≡ lineFrom (rowAt rows k) → LineLimited l × (claimOn l ≡ claimOn (lineRead s k))
+line-held s rows n k l h below e =
+    let is : l ≡ kept (lineRead s k) = e ∙ h .each k below in
+    rw is (kept-limited (lineRead s k) (read-limited _ _), same (lineRead s k))
+  where
+    same : (x : Line) → claimOn (kept x) ≡ claimOn x
+    same (refusedLine r) = refl
+    same (claimLine c) = refl
+    same (instructionLine i) = refl
 
 -- among n lines that hold few stripes, the next line has room
 pub gather-room : (s : List ℕ) (from i n m : ℕ) → i < n → stripesAmong (claimsIn s from n) ≤ m → stripesAmong (claimsIn s from i) + stripesAmong (claimOn (lineRead s (from + i))) ≤ m

@@ -1,5 +1,6 @@
 pub mod Scanning
 pub mod Tables
+pub mod Keeping
 pub mod Wholes
 pub mod Gathering
 pub mod Listings

@@ -5,13 +5,14 @@ use mathlib.Core.List.{List}
 use Prim.Native.Nat.{ℕ, _+_, _*_, _/_, _%_, _≤_, _<_}
 use native.Mathlib.Omega.{arith}
 use lib.ListN.{length}
-use lib.Dec.{eqb, leb}
-use borrow.Author.Tests.{eqb-true, leb-true}
+use native.Mathlib.Decide.{decLe}
+use lib.Dec.{eqb, leb, ltb}
+use borrow.Author.Tests.{eqb-true, leb-true, lt-ltb}
 use Rattle.model.specs.declared.claims.Claim.{Claim}
 use Rattle.model.specs.declared.answers.Refusal.{Refusal}
 use Rattle.model.specs.declared.answers.Judgement.{Judgement}
 use Rattle.model.specs.declared.answers.Judgement.the-variants.{Accepted, Refused as refused}
-use Rattle.model.specs.declared.answers.Refusal.the-variants.{ListingLength, LastLineClaim}
+use Rattle.model.specs.declared.answers.Refusal.the-variants.{ListingLength, LastLineClaim, TooManyPoints}
 use Rattle.model.specs.Limits.{lineBytes}
 use Rattle.model.specs.Answers.{_andThen_}
 use Rattle.model.specs.Listing.{Point, endsWithInstruction, fewPoints, allTargetsExist, endsInPlace, startsNonEmpty, wholeJudged, Reading, going, turned, readTo, readAs, unreadable, listingOr, listingFrom, goodLength, listingOf}
@@ -24,8 +25,10 @@ use Rattle.reader.specs.declared.scan.Progress.the-variants.{Going, Turn
 use Rattle.reader.specs.declared.listing.Listing.{Listing}
 use Rattle.reader.specs.Scan.{scanOf, progressOf, tableTo}
 use Rattle.reader.specs.Whole.{tableAt, pointsJudged}
+use Rattle.reader.specs.Kept.{Kept, Placed, Filled}
 use Rattle.reader.specs.Listing.{PointLines, startJudged, judgedOf, Whole, ReadFrom}
 use Rattle.reader.proofs.Tables.{LinesRead, ReadSo, read-so}
+use Rattle.reader.proofs.Keeping.{filled}
 use Rattle.reader.proofs.Wholes.{whole-same}
 
 -- a point that stands in the table has its claim lines in the listing
@@ -47,7 +50,22 @@ none-left lines pts q e = go (eqb (q .claims) 0) _ refl e
     go true j t k = eqb-true _ _ t
     go false j t k = let z : _≡_ {A = ℕ} 0 1 = cc in absurd (omega arith)
 
-module _ (s : List ℕ) (lines : ℕ) (pts : List code.Point) (q : Scan) (w : Whole s lines pts q) where
+-- and there are not too many points
+few-accepted : (lines : ℕ) (pts : List code.Point) (q : Scan) → pointsJudged lines pts q ≡ Accepted → q .points ≤ 512
+unfolding pointsJudged
+few-accepted lines pts q e = go (eqb (q .claims) 0) _ (decLe (q .points) 512) e
+  where
+    go : (b : Bool) (j : Judgement) → Dec (q .points ≤ 512) → cond b (cond (ltb 512 (q .points)) (refused (TooManyPoints (tableAt pts 512 .line))) j) (refused (LastLineClaim lines)) ≡ Accepted → q .points ≤ 512
+    go b j (yes few) h = few
+    go true j (no many) h =
+        let more : ltb 512 (q .points) ≡ true = lt-ltb 512 (q .points) (omega arith) in
+        let f : cond (ltb 512 (q .points)) (refused (TooManyPoints (tableAt pts 512 .line))) j ≡ Accepted = h in
+        let g : refused (TooManyPoints (tableAt pts 512 .line)) ≡ Accepted = rw more at f in
+        let z : _≡_ {A = ℕ} 0 1 = cc in
+        absurd (omega arith)
+    go false j (no many) h = let z : _≡_ {A = ℕ} 0 1 = cc in absurd (omega arith)
+
+module _ (s : List ℕ) (lines : ℕ) (q : Scan) (w : Whole s lines q) where
   -- the points and claims that were read
   record Known : Type 0 where
     ps : List Point
@@ -66,45 +84,66 @@ module _ (s : List ℕ) (lines : ℕ) (pts : List code.Point) (q : Scan) (w : Wh
   pub some-read : 1 ≤ q .points + q .claims
   some-read = let k = known in rw (k .kept) (k .read .some (w .some))
 
-  whole-is : judgedOf lines (readTo s lines) ≡ (pointsJudged lines pts q andThen startsNonEmpty (known .ps))
-  whole-is = let k = known in ap (judgedOf lines) (k .is) ∙ sym (whole-same s lines (k .ps) (k .cs) (k .read) (w .some)) ∙ ap₂ (λ (t : List code.Point) (x : Scan). pointsJudged lines t x andThen startsNonEmpty (k .ps)) (sym (w .table)) (sym (k .kept))
+  pub whole-filled : (rows at : List ℕ) → Kept s rows lines → Placed s at lines → q .points ≤ 512 → Filled s rows at lines (q .points)
+  whole-filled rows at k p few =
+      let n = known in
+      let count : q .points ≡ length (n .ps) = ap (λ (x : Scan). x .points) (n .kept) in
+      rw count (filled s rows at lines (n .ps) (n .cs) k p (n .read) (omega arith))
 
-  pub whole-refused : (r : Refusal) → pointsJudged lines pts q ≡ refused r → judgedOf lines (readTo s lines) ≡ refused r
+  whole-is : judgedOf lines (readTo s lines) ≡ (pointsJudged lines (tableTo s lines) q andThen startsNonEmpty (known .ps))
+  whole-is = let k = known in ap (judgedOf lines) (k .is) ∙ sym (whole-same s lines (k .ps) (k .cs) (k .read) (w .some)) ∙ ap (λ (x : Scan). pointsJudged lines (tableTo s lines) x andThen startsNonEmpty (k .ps)) (sym (k .kept))
+
+  pub whole-refused : (r : Refusal) → pointsJudged lines (tableTo s lines) q ≡ refused r → judgedOf lines (readTo s lines) ≡ refused r
   whole-refused r e = whole-is ∙ rw e
 
-  module _ (e : pointsJudged lines pts q ≡ Accepted) where
+  module _ (e : pointsJudged lines (tableTo s lines) q ≡ Accepted) where
     one-point : 1 ≤ length (known .ps)
     one-point =
         let k = known in
-        let none = none-left lines pts q e in
+        let none = none-left lines (tableTo s lines) q e in
         omega (arith, k .read .some (w .some), ap (λ (x : Scan). x .claims) (k .kept))
 
-    pub whole-accepted : judgedOf lines (readTo s lines) ≡ startJudged s (tableAt pts 0)
+    pub some-points : 1 ≤ q .points
+    some-points = let k = known in rw (k .kept) one-point
+
+    pub few-points-read : q .points ≤ 512
+    few-points-read = few-accepted lines (tableTo s lines) q e
+
+    pub whole-accepted : judgedOf lines (readTo s lines) ≡ startJudged s (tableAt (tableTo s lines) 0)
     whole-accepted =
         let k = known in
-        whole-is ∙ rw e (sym (ap (λ (t : List code.Point). startJudged s (tableAt t 0)) (w .table) ∙ start-same s lines (k .ps) (k .cs) (k .read) one-point))
+        whole-is ∙ rw e (sym (start-same s lines (k .ps) (k .cs) (k .read) one-point))
 
-    pub start-lines : PointLines s lines (tableAt pts 0)
-    start-lines = let k = known in subst (λ (t : List code.Point). PointLines s lines (tableAt t 0)) (sym (w .table)) (point-lines s lines (k .ps) (k .cs) (k .read) 0 one-point (omega arith))
+    pub start-lines : PointLines s lines (tableAt (tableTo s lines) 0)
+    start-lines = let k = known in point-lines s lines (k .ps) (k .cs) (k .read) 0 one-point (omega arith)
+
+few-points : (lines : ℕ) (ps : List Point) (cs : List Claim) → wholeJudged lines ps cs ≡ Accepted → length ps ≤ 512
+unfolding wholeJudged
+few-points lines ps cs e =
+    let (e10, _) = both-accepted (endsWithInstruction lines cs andThen fewPoints ps andThen allTargetsExist (length ps) ps andThen endsInPlace lines ps) (startsNonEmpty ps) e in
+    let (e9, _) = both-accepted (endsWithInstruction lines cs andThen fewPoints ps andThen allTargetsExist (length ps) ps) (endsInPlace lines ps) e10 in
+    let (e8, _) = both-accepted (endsWithInstruction lines cs andThen fewPoints ps) (allTargetsExist (length ps) ps) e9 in
+    let (_, few) = both-accepted (endsWithInstruction lines cs) (fewPoints ps) e8 in
+    leb-true (length ps) 512 (test-passed _ _ few)
 
 -- the whole listing
-pub from-turned : (s : List ℕ) (lines : ℕ) (r : Refusal) (l : Listing) → progressOf (readTo s lines) ≡ Turned r → l .judgement ≡ refused r → ReadFrom s lines (listingFrom lines (readTo s lines)) l
-from-turned s lines r l e j = go (readTo s lines) e
+pub from-turned : (s : List ℕ) (lines : ℕ) (r : Refusal) (l : Listing) (rows at : List ℕ) → progressOf (readTo s lines) ≡ Turned r → l .judgement ≡ refused r → ReadFrom s lines (listingFrom lines (readTo s lines)) l rows at
+from-turned s lines r l rows at e j = go (readTo s lines) e
   where
-    go : (x : Reading) → progressOf x ≡ Turned r → ReadFrom s lines (listingFrom lines x) l
+    go : (x : Reading) → progressOf x ≡ Turned r → ReadFrom s lines (listingFrom lines x) l rows at
     go (turned x) p = let same : r ≡ x = cc in j ∙ ap refused same
     go (going ps cs) p = let z : _≡_ {A = ℕ} 0 1 = cc in absurd (omega arith)
 
-pub from-going : (s : List ℕ) (lines : ℕ) (q : Scan) (l : Listing) → progressOf (readTo s lines) ≡ Going q → l .judgement ≡ judgedOf lines (readTo s lines) → l .count ≡ q .points → l .points ≡ tableTo s lines → ReadFrom s lines (listingFrom lines (readTo s lines)) l
-from-going s lines q l e j n t = go (readTo s lines) e j
+pub from-going : (s : List ℕ) (lines : ℕ) (q : Scan) (l : Listing) (rows at : List ℕ) → Kept s rows lines → Placed s at lines → progressOf (readTo s lines) ≡ Going q → l .judgement ≡ judgedOf lines (readTo s lines) → l .count ≡ q .points → ReadFrom s lines (listingFrom lines (readTo s lines)) l rows at
+from-going s lines q l rows at kept placed e j n = go (readTo s lines) (read-so s lines) e j
   where
-    whole : (ps : List Point) (x : Judgement) → l .judgement ≡ x → l .count ≡ length ps → ReadFrom s lines (listingOr x ps) l
-    whole ps Accepted a b = (a, b, t)
-    whole ps (refused r) a b = a
-
-    go : (x : Reading) → progressOf x ≡ Going q → l .judgement ≡ judgedOf lines x → ReadFrom s lines (listingFrom lines x) l
-    go (turned x) p k = let z : _≡_ {A = ℕ} 0 1 = cc in absurd (omega arith)
-    go (going ps cs) p k = let same : scanOf ps cs ≡ q = cc in whole ps (wholeJudged lines ps cs) k (n ∙ ap (λ (x : Scan). x .points) (sym same))
+    go : (x : Reading) → ReadSo s lines x → progressOf x ≡ Going q → l .judgement ≡ judgedOf lines x → ReadFrom s lines (listingFrom lines x) l rows at
+    go (turned x) h p k = let z : _≡_ {A = ℕ} 0 1 = cc in absurd (omega arith)
+    go (going ps cs) h p k = let same : scanOf ps cs ≡ q = cc in whole (wholeJudged lines ps cs) refl k (n ∙ ap (λ (x : Scan). x .points) (sym same))
+      where
+        whole : (x : Judgement) → wholeJudged lines ps cs ≡ x → l .judgement ≡ x → l .count ≡ length ps → ReadFrom s lines (listingOr x ps) l rows at
+        whole Accepted w a b = (a, b, filled s rows at lines ps cs kept placed h (few-points lines ps cs w))
+        whole (refused r) w a b = a
 
 pub listing-good : (s : List ℕ) → goodLength (length s) ≡ true → listingOf s ≡ listingFrom (length s / lineBytes) (readTo s (length s / lineBytes))
 unfolding listingOf
@@ -123,21 +162,16 @@ good-lines n e =
     let c = eqb-true (n % 40) 0 (and-right (leb 1 n && leb n 65520) _ e) in
     omega arith
 
+pub good-short : (n : ℕ) → goodLength n ≡ true → n ≤ 65520
+unfolding goodLength
+good-short n e = leb-true n 65520 (and-right (leb 1 n) (leb n 65520) (and-left (leb 1 n && leb n 65520) _ e))
+
 -- what is known of the points of a listing that is read
 pub record Points (s : List ℕ) (ps : List Point) : Type 0 where
   pub lines : (1 ≤ length s / 40) × (length s / 40 ≤ 1638) × (length s / 40 * 40 ≤ length s)
   pub few : length ps ≤ 512
   pub claims : List Claim
   pub read : LinesRead s (length s / 40) ps claims
-
-few-points : (lines : ℕ) (ps : List Point) (cs : List Claim) → wholeJudged lines ps cs ≡ Accepted → length ps ≤ 512
-unfolding wholeJudged
-few-points lines ps cs e =
-    let (e10, _) = both-accepted (endsWithInstruction lines cs andThen fewPoints ps andThen allTargetsExist (length ps) ps andThen endsInPlace lines ps) (startsNonEmpty ps) e in
-    let (e9, _) = both-accepted (endsWithInstruction lines cs andThen fewPoints ps andThen allTargetsExist (length ps) ps) (endsInPlace lines ps) e10 in
-    let (e8, _) = both-accepted (endsWithInstruction lines cs andThen fewPoints ps) (allTargetsExist (length ps) ps) e9 in
-    let (_, few) = both-accepted (endsWithInstruction lines cs) (fewPoints ps) e8 in
-    leb-true (length ps) 512 (test-passed _ _ few)
 
 pub listing-points : (s : List ℕ) (ps : List Point) → listingOf s ≡ readAs ps → Points s ps
 listing-points s ps e = go (goodLength (length s)) refl

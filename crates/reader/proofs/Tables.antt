@@ -32,6 +32,7 @@ pub record PointRead (s : List ℕ) (n : ℕ) (q : Point) : Type 0 where
   pub line : q .line ≤ n
   pub stripes : stripesAmong (q .claims) ≤ 8
   pub gathered : claimsIn s (firstLine q - 1) (length (q .claims)) ≡ q .claims
+  pub instruction : lineRead s (q .line - 1) ≡ instructionLine (q .instruction)
 
 -- the points and claims of n lines
 pub record LinesRead (s : List ℕ) (n : ℕ) (ps : List Point) (cs : List Claim) : Type 0 where
@@ -68,7 +69,7 @@ table-aside s n e i h = rw e (getD-set-other (tableTo s n) 513 i _ noPoint (λ q
 
 module _ (s : List ℕ) (n : ℕ) (ps : List Point) (cs : List Claim) (read : readTo s n ≡ going ps cs) (h : LinesRead s n ps cs) where
   later : (q : Point) → PointRead s n q → PointRead s (suc n) q
-  later q r = record { before = r .before; line = let l = r .line in omega arith; stripes = r .stripes; gathered = r .gathered }
+  later q r = record { before = r .before; line = let l = r .line in omega arith; stripes = r .stripes; gathered = r .gathered; instruction = r .instruction }
 
   -- a claim more
   claim-more : (c : Claim) → lineRead s n ≡ claimLine c → stripesAmong (cs ++ (c ∷ [])) ≤ 8 → LinesRead s (suc n) ps (cs ++ (c ∷ []))
@@ -107,8 +108,11 @@ module _ (s : List ℕ) (n : ℕ) (ps : List Point) (cs : List Claim) (read : re
       first : firstLine q - 1 ≡ n - length cs
       first = omega arith
 
+      own : n + 1 - 1 ≡ n
+      own = omega arith
+
       new : PointRead s (suc n) q
-      new = let a = h .claims in record { before = omega arith; line = omega arith; stripes = h .stripes; gathered = rw first (h .gathered) }
+      new = let a = h .claims in record { before = omega arith; line = omega arith; stripes = h .stripes; gathered = rw first (h .gathered); instruction = rw own e }
 
       last : getD (ps ++ (q ∷ [])) (length ps) noModelPoint ≡ q
       last = getD-at ps q [] noModelPoint (length ps) refl

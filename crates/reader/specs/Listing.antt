@@ -1,5 +1,5 @@
 -- What the code's reading of a listing stands for.
-use Prim.Native.Nat.{ℕ, _-_, _/_, _≤_, _<_}
+use Prim.Native.Nat.{ℕ, _*_, _-_, _/_, _≤_, _<_}
 use mathlib.Core.Path.{_≡_}
 use mathlib.Core.Bool.{cond}
 use mathlib.Core.List.{List}
@@ -7,7 +7,7 @@ use lib.ListN.{length}
 use Rattle.model.specs.declared.answers.Judgement.{Judgement}
 use Rattle.model.specs.declared.answers.Judgement.the-variants.{Accepted, Refused as refused}
 use Rattle.model.specs.declared.answers.Refusal.the-variants.{EmptyStart}
-use Rattle.model.specs.Limits.{lineBytes, greatestStripes}
+use Rattle.model.specs.Limits.{lineBytes, greatestListing, greatestStripes}
 use Rattle.model.specs.Facts.{factsOf}
 use Rattle.model.specs.Transfer.{possible}
 use Rattle.model.specs.Listing.{stripesAmong, Reading, going, turned, readTo, wholeJudged, readAs, unreadable}
@@ -16,7 +16,8 @@ use Rattle.reader.specs.declared.scan.Point.{Point}
 use Rattle.reader.specs.declared.scan.Scan.{Scan}
 use Rattle.reader.specs.declared.scan.Progress.the-variants.{Going}
 use Rattle.reader.specs.declared.listing.Listing.{Listing}
-use Rattle.reader.specs.Scan.{progressOf, tableTo, claimsIn}
+use Rattle.reader.specs.Scan.{progressOf, claimsIn}
+use Rattle.reader.specs.Kept.{Placed, Filled}
 
 -- the line of a point's first claim, counted from 0
 abbrev pub firstOf : Point → ℕ
@@ -37,16 +38,20 @@ abbrev pub judgedOf : ℕ → Reading → Judgement
 judgedOf lines (going ps cs) = wholeJudged lines ps cs
 judgedOf lines (turned r) = refused r
 
--- so many lines were read without a refusal, into this table
-pub record Whole (s : List ℕ) (lines : ℕ) (pts : List Point) (q : Scan) : Type 0 where
+-- so many lines were read without a refusal
+pub record Whole (s : List ℕ) (lines : ℕ) (q : Scan) : Type 0 where
   pub some : 1 ≤ lines
-  pub table : pts ≡ tableTo s lines
   pub read : progressOf (readTo s lines) ≡ Going q
 
--- the code's listing is the model's: its points stand in the table, or it is turned back by the same refusal
-abbrev pub ReadFrom : List ℕ → ℕ → model.Listing → Listing → Type 0
-ReadFrom s lines (readAs ps) r = (r .judgement ≡ Accepted) × (r .count ≡ length ps) × (r .points ≡ tableTo s lines)
-ReadFrom s lines (unreadable x) r = r .judgement ≡ refused x
+-- room for what is kept of a listing: a row for each of its lines, and a place for each point, all empty
+pub record Room (s rows at : List ℕ) : Type 0 where
+  pub lines : length s ≤ greatestListing → length s / lineBytes * 8 ≤ length rows
+  pub places : Placed s at 0
 
-abbrev pub Stands : List ℕ → model.Listing → Listing → Type 0
-Stands s l r = ReadFrom s (length s / lineBytes) l r
+-- the code's listing is the model's: its points are held, or it is turned back by the same refusal
+abbrev pub ReadFrom : List ℕ → ℕ → model.Listing → Listing → List ℕ → List ℕ → Type 0
+ReadFrom s lines (readAs ps) r rows at = (r .judgement ≡ Accepted) × (r .count ≡ length ps) × Filled s rows at lines (length ps)
+ReadFrom s lines (unreadable x) r rows at = r .judgement ≡ refused x
+
+abbrev pub Stands : List ℕ → model.Listing → Listing → List ℕ → List ℕ → Type 0
+Stands s l r rows at = ReadFrom s (length s / lineBytes) l r rows at

@@ -1,4 +1,5 @@
 // The claim lines of a point as a part of the lent listing.
+use crate::kept::point_at;
 use crate::listing::first_of;
 use crate::listing::read_listing;
 use crate::scan::Point;
@@ -24,14 +25,17 @@ fn lines_of(listing: &[u8], q: Point) -> &[u8]
 pub fn claim_lines(listing: &[u8], point: usize) -> &[u8]
     ensures { λ r. ⌜ now r ≡ claimLines (now (listing .entry)) point ⌝ }
 {
-    let l = read_listing(listing);
+    let mut rows = [0u64; 13104];
+    let mut at = [0u16; 1028];
+    let l = read_listing(listing, &mut rows, &mut at);
     let j = l.judgement;
     match j {
         Judgement::Refused(_) => &listing[0..0],
         Judgement::Accepted => {
             if point < l.count {
-                let points = l.points;
-                return lines_of(listing, points[point]);
+                let lines = listing.len() / 40;
+                let q = point_at(listing, &rows, &at, lines, l.count, point);
+                return lines_of(listing, q);
             }
             &listing[0..0]
         }

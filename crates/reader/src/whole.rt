@@ -1,15 +1,18 @@
 // The tests over the whole listing that look at its points alone: refusals 7 to 10.
-use crate::scan::Point;
+use crate::kept::line_of;
+use crate::kept::point_at;
 use crate::scan::Scan;
 use model::answers::Judgement;
 use model::answers::Refusal;
 use model::machine::Instruction;
 ghost use mathlib.Core.Path.{_≡_};
-ghost use Prim.Native.Nat.{_+_, _≤_, _<_};
 ghost use mathlib.Core.List.{[], _∷_};
 ghost use Rattle.model.specs.Answers.{_andThen_};
 ghost use Rattle.model.specs.Listing.{goesOn, targets, targetsExist};
+ghost use Rattle.reader.specs.Scan.{tableTo};
 ghost use Rattle.reader.specs.Whole.{targetsTo, lastJudged, pointsJudged};
+ghost use Rattle.reader.specs.Kept.{Kept, Placed, Filled};
+ghost use Rattle.reader.specs.Listing.{Whole};
 
 // The first refusal of two tests made in order.
 fn and_then(j: Judgement, k: Judgement) -> Judgement
@@ -98,14 +101,20 @@ fn own_targets_exist(n: usize, line: usize, i: Instruction) -> Judgement
 }
 
 // 9 for the first n points, of n.
-fn targets_exist(points: [Point; 514], n: usize) -> Judgement
-    requires { ⌜ n ≤ 512 ⌝ }
-    ensures { λ r. ⌜ r ≡ targetsTo points n n ⌝ }
+fn targets_exist<'a>(
+    listing: &'a [u8],
+    rows: &'a [u64],
+    at: &'a [u16],
+    lines: usize,
+    n: usize,
+) -> Judgement
+    requires { ⌜ Filled (now listing) (now rows) (now at) lines n ⌝ }
+    ensures { λ r. ⌜ r ≡ targetsTo (tableTo (now (listing .entry)) lines) n n ⌝ }
 {
     let mut j = Judgement::Accepted;
     let mut p = 0;
     while p < n {
-        let q = points[p];
+        let q = point_at(listing, rows, at, lines, n, p);
         let i = q.instruction;
         j = and_then(j, own_targets_exist(n, q.line, i));
         p += 1;
@@ -123,20 +132,29 @@ fn last_judged(lines: usize, i: Instruction) -> Judgement
     Judgement::Accepted
 }
 
-// 7 to 10 of a listing with so many lines.
-pub fn judge_points(lines: usize, points: [Point; 514], q: Scan) -> Judgement
-    requires { ⌜ 1 ≤ q .points + q .claims ⌝ }
-    ensures { λ r. ⌜ r ≡ pointsJudged lines points q ⌝ }
+// 7 to 10 of a listing with so many lines, all read.
+pub fn judge_points<'a>(
+    listing: &'a [u8],
+    rows: &'a [u64],
+    at: &'a [u16],
+    lines: usize,
+    q: Scan,
+) -> Judgement
+    requires { ⌜ Kept (now listing) (now rows) lines × Placed (now listing) (now at) lines ⌝ }
+    requires { ⌜ Whole (now listing) lines q ⌝ }
+    ensures { λ r. ⌜ r ≡ pointsJudged lines (tableTo (now (listing .entry)) lines) q ⌝ }
 {
     if q.claims != 0 {
         return Judgement::Refused(Refusal::LastLineClaim { line: lines });
     }
     let n = q.points;
     if 512 < n {
-        let extra = points[512];
-        return Judgement::Refused(Refusal::TooManyPoints { line: extra.line });
+        return Judgement::Refused(Refusal::TooManyPoints {
+            line: line_of(at, 512),
+        });
     }
-    let last = points[n - 1];
+    let last = point_at(listing, rows, at, lines, n, n - 1);
     let i = last.instruction;
-    and_then(targets_exist(points, n), last_judged(lines, i))
+    let targets = targets_exist(listing, rows, at, lines, n);
+    and_then(targets, last_judged(lines, i))
 }

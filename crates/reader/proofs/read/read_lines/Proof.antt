@@ -1,34 +1,32 @@
--- The loop keeps the table of points and what was read equal to the definitions. Assumes nothing.
-use Prim.Native.Nat.{ℕ, _≤_, _+_, _*_, _-_}
-use mathlib.Core.Path.{_≡_}
+-- The loop keeps what was read, the rows and the places equal to the definitions. Assumes nothing.
+use Prim.Native.Nat.{_≤_, _<_, _-_}
+use mathlib.Core.Path.{_≡_, refl, _∙_}
+use native.Mathlib.Nat.{not-suc-le-zero}
 use native.Mathlib.Omega.{arith}
 use native.Mathlib.Numerals.{add-one}
 use borrow.Author.Needs.{needs}
-use lib.ListN.{length-take, length-drop}
+use lib.ListN.{length, length-take, length-drop}
 use Rattle.model.specs.Listing.{readTo}
+use Rattle.decoded.proofs.Written.{row-long}
 use Rattle.reader.specs.Scan.{progressOf, tableTo}
-use Rattle.reader.proofs.Tables.{within, table-next, progress-next}
+use Rattle.reader.specs.Kept.{LinesKept, PointsPlaced}
+use Rattle.reader.proofs.Tables.{within, progress-next}
+use Rattle.reader.proofs.Keeping.{line-read, lines-next, places-next, place-small}
 use Rattle.reader.proofs.read.read_lines.Statement.{statement}
 use Rattle.reader.proofs.read.read_lines.Tie as tie
 
-line-is : (k : ℕ) → k * 40 + 40 - k * 40 ≡ 40
-line-is k = omega arith
-
 abbrev Inv-loop : tie.InvT-loop
-Inv-loop listing n points₀ p₀ k₀ points p k = (k ≤ n) × (points ≡ tableTo listing k) × (p ≡ progressOf (readTo listing k))
+Inv-loop listing n rows₀ at₀ p₀ k₀ rows at p k = (k ≤ n) × (length rows ≡ length rows₀) × (length at ≡ length at₀) × LinesKept listing rows k × PointsPlaced at (tableTo listing k) × (p ≡ progressOf (readTo listing k))
 
 abbrev μ-loop : tie.MeasureT-loop
-μ-loop listing n points₀ p₀ k₀ points p k = n - k
-
-no-point-requires : tie.Need-no-point-requires Inv-loop μ-loop
-no-point-requires c κs = search needs
+μ-loop listing n rows₀ at₀ p₀ k₀ rows at p k = n - k
 
 begin-requires : tie.Need-begin-requires Inv-loop μ-loop
 begin-requires c κs = search needs
 
 loop-holds : tie.Need-loop-holds Inv-loop μ-loop
-unfolding tableTo readTo
-loop-holds c = (omega arith, rw (c .before .no-point .ensures), c .begin .ensures)
+unfolding readTo
+loop-holds c = (omega arith, refl, refl, (λ k h. absurd (not-suc-le-zero h)), c .before .before .before .before .pre .1 .1 .points, c .begin .ensures)
 
 mul-a : tie.Need-mul-a Inv-loop μ-loop
 mul-a c = omega arith
@@ -57,14 +55,19 @@ slot-requires c κs = search needs
 point-from-requires : tie.Need-point-from-requires Inv-loop μ-loop
 point-from-requires c κs = omega arith
 
-mul-points : tie.Need-mul-points Inv-loop μ-loop
-mul-points c = omega arith
+keep-line-requires : tie.Need-keep-line-requires Inv-loop μ-loop
+keep-line-requires c κs = let i = c .before .before .before .before .before .before .loop .inv .1 in let p = c .before .before .before .before .before .before .before .before .before .before .before .pre .1 .0 in omega arith
 
-array-set-from-points : tie.Need-array-set-from-points Inv-loop μ-loop
-array-set-from-points c = let h = c .before .slot .ensures .1 in omega arith
+place-point-requires : tie.Need-place-point-requires Inv-loop μ-loop
+place-point-requires c κs =
+    let l = c .before .before .before .before .before .before .before .before .before .before .loop in
+    let a = c .before .before .before .before .before .before .before .before .before .before .before .before .before .before .before in
+    let few : l .k < 65535 = omega arith in
+    let small = place-small _ _ _ _ _ (l .inv .5) (line-read _ _ _ (c .before .before .before .before .before .before .before .read-line .ensures)) (c .before .before .before .before .before .point-from .ensures) few in
+    (l .inv .2 ∙ a .pre .1 .1 .long, c .before .before .before .before .before .before .slot .ensures .1, small .0, small .1)
 
 after-requires : tie.Need-after-requires Inv-loop μ-loop
-after-requires c κs = (omega arith, rw (c .before .before .before .before .before .loop .inv .2) (within _ _))
+after-requires c κs = (omega arith, rw (c .before .before .before .before .before .before .before .before .before .before .before .before .before .loop .inv .5) (within _ _))
 
 add-k : tie.Need-add-k Inv-loop μ-loop
 add-k c = omega arith
@@ -73,16 +76,34 @@ loop-less : tie.Need-loop-less Inv-loop μ-loop
 loop-less c = omega arith
 
 loop-again : tie.Need-loop-again Inv-loop μ-loop
-loop-again c = (
-  omega arith,
-  rw (add-one, table-next, c .before .point-from .ensures, c .before .before .slot .ensures .0, c .before .before .before .read-line .ensures, line-is (c .before .before .before .before .before .before .loop .k), c .before .before .before .before .before .before .loop .inv .2, c .before .before .before .before .before .before .loop .inv .1),
-  rw (add-one, progress-next, c .after .ensures, c .before .before .before .read-line .ensures, line-is (c .before .before .before .before .before .before .loop .k), c .before .before .before .before .before .before .loop .inv .2),
-)
+loop-again c =
+    let l = c .before .before .before .before .before .before .before .before .before .before .before .before .before .before .loop in
+    let a = c .before .before .before .before .before .before .before .before .before .before .before .before .before .before .before .before .before .before .before in
+    let i = l .inv .1 in
+    let p = a .pre .1 .0 in
+    let t = c .before .before .before .before .before .before .before .before .before .before .before .before .before .loop-test .taken in
+    let e = line-read _ _ _ (c .before .before .before .before .before .before .before .before .before .before .before .read-line .ensures) in (
+      omega arith,
+      rw (c .before .before .before .before .before .before .before .keep-line .ensures) (row-long _ _ _ ∙ l .inv .1),
+      c .before .before .before .place-point .kept .0 ∙ l .inv .2,
+      rw (c .before .before .before .before .before .before .before .keep-line .ensures, add-one (l .k)) (lines-next _ _ _ _ e (omega arith) (l .inv .3)),
+      rw (c .before .before .before .place-point .ensures, add-one (l .k))
+          (places-next _ _ _ _ _ _ _ (l .inv .2 ∙ a .pre .1 .1 .long) (l .inv .5) e (c .before .before .before .before .before .before .before .before .before .before .slot .ensures .0) (c .before .before .before .before .before .before .before .before .before .before .slot .ensures .1) (c .before .before .before .before .before .before .before .before .before .point-from .ensures) (l .inv .4)),
+      rw (add-one (l .k), progress-next, c .after .ensures, e, l .inv .5),
+    )
+
+same-length : tie.Need-same-length Inv-loop μ-loop
+same-length c = c .before .loop .inv .1
+
+same-length-2 : tie.Need-same-length-2 Inv-loop μ-loop
+same-length-2 c = c .before .loop .inv .2
 
 returns : tie.Need-returns Inv-loop μ-loop
 returns c =
-    let e : c .before .loop .k ≡ c .before .before .before .before .before .args .n = omega arith in
-    (rw e at (c .before .loop .inv .1), rw e at (c .before .loop .inv .2))
+    let l = c .before .loop in
+    let a = c .before .before .before .before .before .before in
+    let e : l .k ≡ a .args .n = omega arith in
+    (rw e at (l .inv .5), (record { long = rw (l .inv .1) (a .pre .1 .0); each = rw e at (l .inv .3) }, record { long = l .inv .2 ∙ a .pre .1 .1 .long; points = rw e at (l .inv .4) }))
 
 pub read-lines-spec : {M : Type 1} → statement M
 read-lines-spec =
@@ -90,7 +111,6 @@ read-lines-spec =
     (tie.spec
     Inv-loop
     μ-loop
-    no-point-requires
     begin-requires
     loop-holds
     mul-a
@@ -102,10 +122,12 @@ read-lines-spec =
     read-line-requires
     slot-requires
     point-from-requires
-    mul-points
-    array-set-from-points
+    keep-line-requires
+    place-point-requires
     after-requires
     add-k
     loop-less
     loop-again
+    same-length
+    same-length-2
     returns)

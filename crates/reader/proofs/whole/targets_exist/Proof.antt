@@ -3,25 +3,23 @@ use mathlib.Core.Path.{_≡_, refl}
 use native.Mathlib.Numerals.{add-one}
 use native.Mathlib.Omega.{arith}
 use borrow.Author.Needs.{needs}
+use Rattle.reader.specs.Scan.{tableTo}
 use Rattle.reader.specs.Whole.{targetsTo}
 use Rattle.reader.proofs.whole.targets_exist.Statement.{statement}
 use Rattle.reader.proofs.whole.targets_exist.Tie as tie
 
 abbrev Inv-loop : tie.InvT-loop
-Inv-loop n points j₀ p₀ j p = (p ≤ n) × (j ≡ targetsTo points n p)
+Inv-loop listing rows at lines n j₀ p₀ j p = (p ≤ n) × (j ≡ targetsTo (tableTo listing lines) n p)
 
 abbrev μ-loop : tie.MeasureT-loop
-μ-loop n points j₀ p₀ j p = n - p
+μ-loop listing rows at lines n j₀ p₀ j p = n - p
 
 loop-holds : tie.Need-loop-holds Inv-loop μ-loop
 unfolding targetsTo
 loop-holds c = (omega arith, refl)
 
-mul-q : tie.Need-mul-q Inv-loop μ-loop
-mul-q c = omega arith
-
-array-copy-out-q : tie.Need-array-copy-out-q Inv-loop μ-loop
-array-copy-out-q c = omega arith
+point-at-requires : tie.Need-point-at-requires Inv-loop μ-loop
+point-at-requires c κs = search needs
 
 own-targets-exist-requires : tie.Need-own-targets-exist-requires Inv-loop μ-loop
 own-targets-exist-requires c κs = search needs
@@ -37,11 +35,11 @@ loop-less c = omega arith
 
 loop-again : tie.Need-loop-again Inv-loop μ-loop
 unfolding targetsTo
-loop-again c = (omega arith, rw (add-one, c .and-then .ensures, c .before .own-targets-exist .ensures, c .before .before .before .before .loop .inv .1))
+loop-again c = (omega arith, rw (add-one, c .and-then .ensures, c .before .own-targets-exist .ensures, c .before .before .point-at .ensures, c .before .before .before .before .loop .inv .1))
 
 returns : tie.Need-returns Inv-loop μ-loop
 returns c =
-    let e : c .before .loop .p ≡ c .before .before .args .n = omega arith in
+    let e : c .before .loop .p ≡ c .before .before .before .before .before .args .n = omega arith in
     rw e at (c .before .loop .inv .1)
 
 pub targets-exist-spec : {M : Type 1} → statement M
@@ -51,8 +49,7 @@ targets-exist-spec =
     Inv-loop
     μ-loop
     loop-holds
-    mul-q
-    array-copy-out-q
+    point-at-requires
     own-targets-exist-requires
     and-then-requires
     add-p

@@ -1,0 +1,50 @@
+use native.Mathlib.Omega.{arith}
+use lib.ListN.{length-set}
+use borrow.Author.Needs.{needs}
+use Rattle.reader.proofs.kept.place_point.Statement.{statement}
+use Rattle.reader.proofs.kept.place_point.Tie as tie
+
+mul-place : tie.Need-mul-place
+mul-place c = search needs
+
+cast-at : tie.Need-cast-at
+cast-at c = search needs
+
+mul-at : tie.Need-mul-at
+mul-at c = search needs
+
+slice-write-at : tie.Need-slice-write-at
+slice-write-at c = search needs
+
+cast-at-2 : tie.Need-cast-at-2
+cast-at-2 c = search needs
+
+add-at : tie.Need-add-at
+add-at c = search needs
+
+mul-at-2 : tie.Need-mul-at-2
+mul-at-2 c = search needs
+
+slice-write-at-2 : tie.Need-slice-write-at-2
+slice-write-at-2 c = simp length-set (omega arith)
+
+same-length : tie.Need-same-length
+same-length c = search needs
+
+returns : tie.Need-returns
+returns c = search needs
+
+pub place-point-spec : {M : Type 1} → statement M
+place-point-spec =
+    tie.close
+    (tie.spec
+    mul-place
+    cast-at
+    mul-at
+    slice-write-at
+    cast-at-2
+    add-at
+    mul-at-2
+    slice-write-at-2
+    same-length
+    returns)

@@ -1,0 +1,46 @@
+-- What is kept of the lines that were read: a row of numbers for each line, and for each point its line and how many claims it has.
+use Prim.Native.Nat.{ℕ, _+_, _*_, _-_, _≤_, _<_}
+use mathlib.Core.Path.{_≡_}
+use mathlib.Core.List.{List}
+use lib.ListN.{length, getD, set}
+use Rattle.decoded.specs.Rows.{rowAt}
+use Rattle.decoded.specs.Decoded.{instructionFrom, lineFrom, kept}
+use Rattle.reader.specs.declared.scan.Point.{Point}
+use Rattle.reader.specs.Scan.{lineRead, tableTo}
+use Rattle.reader.specs.Whole.{tableAt}
+
+-- the first n rows hold the first n lines
+abbrev pub LinesKept : List ℕ → List ℕ → ℕ → Type 0
+LinesKept s rows n = (k : ℕ) → k < n → lineFrom (rowAt rows k) ≡ kept (lineRead s k)
+
+-- the same, with room for all n rows
+pub record Kept (s rows : List ℕ) (n : ℕ) : Type 0 where
+  pub long : n * 8 ≤ length rows
+  pub each : LinesKept s rows n
+
+-- the line and the number of claims of a point, written in its place
+abbrev pub withPlace : List ℕ → ℕ → Point → List ℕ
+withPlace at m q = set (set at (m * 2) (q .line)) (m * 2 + 1) (q .claims)
+
+-- every place holds the line and the number of claims of its point in the table
+pub record PointsPlaced (at : List ℕ) (pts : List Point) : Type 0 where
+  pub line : (p : ℕ) → p ≤ 513 → getD at (p * 2) 0 ≡ tableAt pts p .line
+  pub claims : (p : ℕ) → p ≤ 513 → getD at (p * 2 + 1) 0 ≡ tableAt pts p .claims
+
+-- the same after n lines
+pub record Placed (s at : List ℕ) (n : ℕ) : Type 0 where
+  pub long : length at ≡ 1028
+  pub points : PointsPlaced at (tableTo s n)
+
+-- point p as rows and places hold it
+abbrev pub pointIn : List ℕ → List ℕ → ℕ → Point
+pointIn rows at p = record { instruction = instructionFrom (rowAt rows (getD at (p * 2) 0 - 1)); line = getD at (p * 2) 0; claims = getD at (p * 2 + 1) 0 }
+
+-- the first n points of a listing with so many lines are held so
+pub record Filled (s rows at : List ℕ) (lines n : ℕ) : Type 0 where
+  pub few : n ≤ 512
+  pub kept : Kept s rows lines
+  pub long : length at ≡ 1028
+  pub each : (p : ℕ) → p < n → pointIn rows at p ≡ tableAt (tableTo s lines) p
+  pub first : (p : ℕ) → p < n → 1 ≤ getD at (p * 2) 0
+  pub last : (p : ℕ) → p < n → getD at (p * 2) 0 ≤ lines
