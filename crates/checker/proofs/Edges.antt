@@ -2,9 +2,9 @@
 use mathlib.Core.Path.{_≡_, refl, sym, ap, ap₂, _∙_}
 use mathlib.Core.Bool.{Bool, true, false, cond}
 use mathlib.Core.List.{List}
-use Prim.Native.Nat.{ℕ, suc, _+_, _*_, _-_, _≤_, _<_}
+use Prim.Native.Nat.{ℕ, suc, _+_, _-_, _≤_, _<_}
 use native.Mathlib.Omega.{arith}
-use lib.ListN.{length, take, drop}
+use lib.ListN.{length}
 use lib.Dec.{eqb}
 use borrow.Author.Tests.{eq-eqb, ne-eqb}
 use Rattle.model.specs.declared.claims.Claim.{Claim}
@@ -19,19 +19,18 @@ use Rattle.model.specs.Facts.{Facts}
 use Rattle.model.specs.Transfer.{possible}
 use Rattle.model.specs.Follows.{claimFollows, firstLost, lostAlong}
 use Rattle.model.specs.Listing.{Point, firstLine}
-use Rattle.model.specs.Lines.{readLine}
 use Rattle.model.specs.Check.{claimsJudged}
+use Rattle.decoded.specs.Decoded.{kept}
 use Rattle.reader.specs.Scan.{lineRead, claimsIn}
 use Rattle.checker.specs.Lost.{lostOn, lostTo}
 use Rattle.checker.specs.Edges.{edgeLost}
 use Rattle.checker.proofs.Losing.{lost-same, lost-stays}
 
--- the 40 bytes that the code cuts out are the line
-pub line-read : (s : List ℕ) (k : ℕ) (l : Line) → l ≡ readLine (k + 1) (take (k * 40 + 40 - k * 40) (drop (k * 40) s)) → l ≡ lineRead s k
-line-read s k l e = rw long at e
-  where
-    long : k * 40 + 40 - k * 40 ≡ 40
-    long = omega arith
+-- a line that is looked up is lost where the line that was read is
+pub line-lost : (f : Facts) (m : ℕ) (l : Line) → lostOn f m (kept l) ≡ lostOn f m l
+line-lost f m (refusedLine r) = refl
+line-lost f m (claimLine c) = refl
+line-lost f m (instructionLine i) = refl
 
 -- one line, by its kind
 pub lost-refused : (f : Facts) (m : ℕ) (l : Line) (r : Refusal) → l ≡ refusedLine r → 0 ≡ lostOn f m l
@@ -45,9 +44,9 @@ lost-claim f m l c b e h = rw (e, h)
 
 module _ (s : List ℕ) (f : Facts) (from : ℕ) where
   -- after lines of which none is lost, the next one tells
-  pub lost-next : (j lost : ℕ) (l : Line) → lostTo s f from j ≡ 0 → l ≡ lineRead s (from + j) → lost ≡ lostOn f (from + j + 1) l → lostTo s f from (suc j) ≡ lost
+  pub lost-next : (j lost : ℕ) (l : Line) → lostTo s f from j ≡ 0 → l ≡ kept (lineRead s (from + j)) → lost ≡ lostOn f (from + j + 1) l → lostTo s f from (suc j) ≡ lost
   unfolding lostTo
-  lost-next j lost l none e h = rw (none, ← e) (sym h)
+  lost-next j lost l none e h = rw (none, ← line-lost f (from + j + 1) (lineRead s (from + j)), ← e) (sym h)
 
   -- and where it is lost, it is the first of all
   pub lost-first : (j n lost : ℕ) → j < n → lostTo s f from (suc j) ≡ lost → (lost ≡ 0 → ⊥) → lost ≡ lostTo s f from n

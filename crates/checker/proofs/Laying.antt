@@ -1,8 +1,8 @@
--- What is known, laid out for goals, and the numbers of an access. Assumes nothing.
+-- The numbers of an access, and rows that are to be written anew. Assumes nothing.
 use mathlib.Core.Path.{_≡_}
-use mathlib.Core.Bool.{true}
 use mathlib.Core.List.{List}
 use Prim.Native.Nat.{ℕ, _+_, _*_}
+use native.Mathlib.Nat.{not-suc-le-zero}
 use native.Mathlib.Omega.{arith}
 use lib.Dec.{leb}
 use Rattle.model.specs.declared.claims.Range.{Range}
@@ -11,25 +11,13 @@ use Rattle.model.specs.declared.machine.Width.{Width}
 use Rattle.model.specs.Limits.{blankVariable, greatestLinks}
 use Rattle.model.specs.Facts.{Facts, lo, hi}
 use Rattle.model.specs.Machine.{bytesOf, sizeVariable}
-use Rattle.model.specs.Transfer.{stripe, possible}
+use Rattle.model.specs.Transfer.{stripe}
 use Rattle.model.specs.Follows.{follows}
-use Rattle.domain.specs.declared.Facts as code
-use Rattle.domain.specs.Known.{known, AtPoint, AlongEdge}
-use Rattle.domain.proofs.Possible.{possible-low}
-use Rattle.goals.specs.Sizes.{AllWords, AllSmall}
+use Rattle.domain.specs.Known.{Standing}
 
-module _ (f : code.Facts) where
-  pub point-words : AtPoint f → AllWords (f .ranges)
-  point-words at v h = (at .words v .low, at .words v .high)
-
-  pub point-small : AtPoint f → AllSmall (f .count) (f .stripes)
-  point-small at i h = let s = at .bounds i in record { plus = omega arith; minus = omega arith }
-
-  pub edge-words : AlongEdge f → possible (known f) ≡ true → AllWords (f .ranges)
-  edge-words along e v h = (possible-low (known f) (along .ranges) e (along .high) v, along .high v)
-
-  pub edge-small : AlongEdge f → AllSmall (f .count) (f .stripes)
-  edge-small along i h = let s = along .bounds i in record { plus = omega arith; minus = omega arith }
+-- rows of which none stands
+pub none-stand : (rows : List ℕ) (n : ℕ) → Standing rows n → Standing rows 0
+none-stand rows n h = record { few = omega arith; parts = h .parts; bytes = λ i l. absurd (not-suc-le-zero l) }
 
 module _ (b : Table) (w : Width) (a i k x n : ℕ) (size : x ≡ sizeVariable b) (bytes : n ≡ bytesOf w) where
   pub access-ranges : (rs : List Range) → leb (a * hi rs i + k + n) (lo rs x) ≡ leb (a * hi rs i + k + bytesOf w) (lo rs (sizeVariable b))

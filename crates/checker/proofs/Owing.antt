@@ -132,37 +132,36 @@ module _ (s : List ℕ) (ps : List Point) (read : listingOf s ≡ readAs ps) whe
         rw (in-table p inside, in-table (nextOf (q .instruction) p) next-inside, in-table (targetOf (q .instruction) p) target-inside, known .read .each p inside .gathered)
         (ap (λ (j : Judgement). safetyJudged (q .line) (factsOf (q .claims)) (q .instruction) andThen j) (edges-same (q .instruction) (q .line) (q .claims) next-exists target-inside))
 
-    -- the same over a table that holds the points, with the indices as the code computes them
-    module _ (pts : List code.Point) (table : pts ≡ tableTo s (length s / 40)) (a b : ℕ) (next : a ≡ nextOf (tableAt pts p .instruction) p) (target : b ≡ targetOf (tableAt pts p .instruction) p) where
-      at-p : tableAt pts p ≡ coded (pointAt ps p)
-      at-p = ap (λ (t : List code.Point). tableAt t p) table ∙ in-table p inside
+    -- the same over the points that the code looks up, with the indices as it computes them
+    abbrev table : List code.Point
+    table = tableTo s (length s / 40)
 
-      a-inside : a < length ps
-      a-inside = subst (λ (x : ℕ). x < length ps) (sym (next ∙ ap (λ (q : code.Point). nextOf (q .instruction) p) at-p)) next-inside
+    module _ (q : code.Point) (is : q ≡ tableAt table p) (a b : ℕ) (next : a ≡ nextOf (q .instruction) p) (target : b ≡ targetOf (q .instruction) p) where
+      at-p : q ≡ coded (pointAt ps p)
+      at-p = is ∙ in-table p inside
 
-      b-inside : b < length ps
-      b-inside = subst (λ (x : ℕ). x < length ps) (sym (target ∙ ap (λ (q : code.Point). targetOf (q .instruction) p) at-p)) target-inside
+      pub a-inside : a < length ps
+      a-inside = subst (λ (x : ℕ). x < length ps) (sym (next ∙ ap (λ (r : code.Point). nextOf (r .instruction) p) at-p)) next-inside
 
-      pub few-a : a < 512
-      few-a = let few = known .few in let i = a-inside in omega arith
+      pub b-inside : b < length ps
+      b-inside = subst (λ (x : ℕ). x < length ps) (sym (target ∙ ap (λ (r : code.Point). targetOf (r .instruction) p) at-p)) target-inside
 
-      pub few-b : b < 512
-      few-b = let few = known .few in let i = b-inside in omega arith
+      module _ (x y : code.Point) (x-is : x ≡ tableAt table a) (y-is : y ≡ tableAt table b) where
+        pub lines-all : PointLines s (length s / 40) q × PointLines s (length s / 40) x × PointLines s (length s / 40) y
+        lines-all = (
+          subst (PointLines s (length s / 40)) (sym is) (lines-of p inside),
+          subst (PointLines s (length s / 40)) (sym x-is) (lines-of a a-inside),
+          subst (PointLines s (length s / 40)) (sym y-is) (lines-of b b-inside),
+        )
 
-      lines-in : (q : ℕ) → q < length ps → PointLines s (length s / 40) (tableAt pts q)
-      lines-in q h = subst (λ (t : List code.Point). PointLines s (length s / 40) (tableAt t q)) (sym table) (lines-of q h)
+        pub limited-in : Limited (q .instruction)
+        limited-in = subst (λ (r : code.Point). Limited (r .instruction)) (sym is) limited-at
 
-      pub lines-all : PointLines s (length s / 40) (tableAt pts p) × PointLines s (length s / 40) (tableAt pts a) × PointLines s (length s / 40) (tableAt pts b)
-      lines-all = (lines-in p inside, lines-in a a-inside, lines-in b b-inside)
-
-      pub limited-in : Limited (tableAt pts p .instruction)
-      limited-in = subst (λ (t : List code.Point). Limited (tableAt t p .instruction)) (sym table) limited-at
-
-      pub owed-is : owed s (tableAt pts p) (tableAt pts a) (tableAt pts b) ≡ pointJudged ps p (pointAt ps p)
-      owed-is =
-          ap₂ (λ (x y : ℕ). owed s (tableAt pts p) (tableAt pts x) (tableAt pts y)) next target
-          ∙ ap (λ (t : List code.Point). owed s (tableAt t p) (tableAt t (nextOf (tableAt t p .instruction) p)) (tableAt t (targetOf (tableAt t p .instruction) p))) table
-          ∙ point-same
+        pub owed-is : owed s q x y ≡ pointJudged ps p (pointAt ps p)
+        owed-is =
+            ap₂ (owed s q) x-is y-is ∙ ap₂ (λ (u v : ℕ). owed s q (tableAt table u) (tableAt table v)) next target
+            ∙ ap (λ (r : code.Point). owed s r (tableAt table (nextOf (r .instruction) p)) (tableAt table (targetOf (r .instruction) p))) is
+            ∙ point-same
 
 -- the points in order
 pub points-none : (ps : List Point) → pointsJudged ps 0 ≡ Accepted

@@ -1,3 +1,4 @@
 pub mod Lost
 pub mod Edges
 pub mod Points
+pub mod Judged

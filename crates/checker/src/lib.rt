@@ -8,26 +8,61 @@ use crate::output::printed;
 use crate::points::points_judged;
 use model::answers::Judgement;
 use model::answers::Verdict;
+use reader::listing::Listing;
+use reader::listing::read_listing;
 ghost use mathlib.Core.Path.{_≡_};
+ghost use Prim.Native.Nat.{_*_, _/_, _≤_};
+ghost use lib.ListN.{length};
+ghost use Rattle.model.specs.Limits.{lineBytes, greatestListing};
 ghost use Rattle.model.specs.Check;
 ghost use Rattle.model.specs.Output;
+ghost use Rattle.reader.specs.Listing.{Room};
+ghost use Rattle.checker.specs.Judged.{Judged};
 
-// The checker's answer: the number of points of a passed listing, or the first refusal. Nothing that is lent changes.
-pub fn check(listing: &[u8]) -> Verdict
-    ensures { λ r. ⌜ r ≡ Check.check (now (listing .entry)) ⌝ }
+// A listing read once and judged by 1 to 14. Its lines are kept in the rows, its points in their places.
+pub fn judged_listing(listing: &[u8], rows: &mut [u64], at: &mut [u16]) -> Listing
+    requires { ⌜ Room (now listing) (now rows) (now at) ⌝ }
+    ensures { λ r. ⌜ Judged (now (listing .entry)) r (now (rows .exit)) (now (at .exit)) ⌝ }
 {
-    let l = reader::listing::read_listing(listing);
+    let l = read_listing(listing, rows, at);
     let j = l.judgement;
     match j {
-        Judgement::Refused(r) => Verdict::Refused(r),
+        Judgement::Refused(_) => l,
         Judgement::Accepted => {
-            let points = l.points;
-            match points_judged(listing, points, l.count) {
-                Judgement::Refused(r) => Verdict::Refused(r),
-                Judgement::Accepted => Verdict::Passed { points: l.count },
+            let count = l.count;
+            Listing {
+                judgement: points_judged(listing, rows, at, count),
+                count,
             }
         }
     }
+}
+
+// The checker's answer, with rows that are lent for the lines.
+fn check_in(listing: &[u8], rows: &mut [u64]) -> Verdict
+    requires { ⌜ (length (now listing) ≤ greatestListing → length (now listing) / lineBytes * 8 ≤ length (now rows)) ⌝ }
+    ensures { λ r. ⌜ r ≡ Check.check (now (listing .entry)) ⌝ }
+{
+    let mut at = [0u16; 1028];
+    let l = judged_listing(listing, rows, &mut at);
+    let j = l.judgement;
+    match j {
+        Judgement::Refused(r) => Verdict::Refused(r),
+        Judgement::Accepted => Verdict::Passed { points: l.count },
+    }
+}
+
+// The checker's answer: the number of points of a passed listing, or the first refusal. Nothing that is lent changes.
+// A short listing has few rows, so that its call does not pay for the longest.
+pub fn check(listing: &[u8]) -> Verdict
+    ensures { λ r. ⌜ r ≡ Check.check (now (listing .entry)) ⌝ }
+{
+    if listing.len() <= 2560 {
+        let mut rows = [0u64; 512];
+        return check_in(listing, &mut rows);
+    }
+    let mut rows = [0u64; 13104];
+    check_in(listing, &mut rows)
 }
 
 // The line of 40 bytes that the program prints for a listing.

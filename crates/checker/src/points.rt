@@ -1,22 +1,23 @@
 // What each point owes: its own safety, then the claims of the points that its edges lead to.
 use crate::lost::edge_judged;
 use crate::safety::safety_judged;
-use domain::Facts;
 use model::answers::Judgement;
 use model::machine::Edge;
 use model::machine::Instruction;
 use reader::facts::facts_of;
+use reader::kept::point_at;
 use reader::listing::first_of;
 use reader::scan::Point;
 ghost use mathlib.Core.Path.{_≡_};
-ghost use Prim.Native.Nat.{_+_, _*_, _/_, _≤_, _<_};
+ghost use Prim.Native.Nat.{_+_, _/_, _≤_, _<_};
 ghost use lib.ListN.{length};
 ghost use Rattle.model.specs.Listing.{readAs, listingOf, pointsOf};
 ghost use Rattle.model.specs.Check;
 ghost use Rattle.model.proofs.Limits.{Limited};
-ghost use Rattle.domain.specs.Known.{known, AtPoint};
+ghost use Rattle.goals.specs.Rows.{SizedRows};
+ghost use Rattle.domain.specs.Known.{known, Standing, AtPoint};
+ghost use Rattle.reader.specs.Kept.{Kept, Filled};
 ghost use Rattle.reader.specs.Listing.{PointLines};
-ghost use Rattle.reader.specs.Scan.{tableTo};
 ghost use Rattle.checker.specs.Points.{nextOf, hasTarget, targetOf, isRefused, edgeOwed, nextOwed, targetOwed, owed};
 
 // The next point, or the point itself where its instruction does not go on.
@@ -106,102 +107,246 @@ fn is_refused(j: Judgement) -> bool
 }
 
 // 14 along one edge to a point.
-fn edge_owed(
-    listing: &[u8],
+fn edge_owed<'a>(
+    listing: &'a [u8],
+    rows: &'a [u64],
     lines: usize,
     line: usize,
     e: Edge,
     i: Instruction,
-    f: Facts,
+    low: &'a [u64; 18],
+    high: &'a [u64; 18],
+    stripes: &'a [u64; 60],
+    m: usize,
+    edge_low: &'a mut [u64; 18],
+    edge_high: &'a mut [u64; 18],
+    edge_stripes: &'a mut [u64; 60],
     q: Point,
 ) -> Judgement
-    requires { ⌜ (lines ≤ 1638) × (lines * 40 ≤ length (now listing)) ⌝ }
-    requires { ⌜ AtPoint f ⌝ }
+    requires { ⌜ Kept (now listing) (now rows) lines × (lines ≤ 1638) ⌝ }
+    requires { ⌜ AtPoint (now low) (now high) (now stripes) m ⌝ }
     requires { ⌜ Limited i ⌝ }
+    requires { ⌜ SizedRows (now «edge_stripes») ⌝ }
     requires { ⌜ PointLines (now listing) lines q ⌝ }
-    ensures { λ r. ⌜ r ≡ edgeOwed (now (listing .entry)) line e i (known f) q ⌝ }
+    ensures { λ r. ⌜ r ≡ edgeOwed (now (listing .entry)) line e i (known (now (low .entry)) (now (high .entry)) (now (stripes .entry)) m) q ⌝ }
+    ensures { λ r. ⌜ SizedRows (now («edge_stripes» .exit)) ⌝ }
 {
-    edge_judged(listing, line, e, i, f, first_of(q), q.claims)
+    let first = first_of(q);
+    edge_judged(
+        listing,
+        rows,
+        lines,
+        line,
+        e,
+        i,
+        low,
+        high,
+        stripes,
+        m,
+        edge_low,
+        edge_high,
+        edge_stripes,
+        first,
+        q.claims,
+    )
 }
 
 // 14 along the edge to the next point, if there is one.
-fn next_owed(
-    listing: &[u8],
+fn next_owed<'a>(
+    listing: &'a [u8],
+    rows: &'a [u64],
     lines: usize,
     line: usize,
     i: Instruction,
-    f: Facts,
+    low: &'a [u64; 18],
+    high: &'a [u64; 18],
+    stripes: &'a [u64; 60],
+    m: usize,
+    edge_low: &'a mut [u64; 18],
+    edge_high: &'a mut [u64; 18],
+    edge_stripes: &'a mut [u64; 60],
     next: Point,
 ) -> Judgement
-    requires { ⌜ (lines ≤ 1638) × (lines * 40 ≤ length (now listing)) ⌝ }
-    requires { ⌜ AtPoint f ⌝ }
+    requires { ⌜ Kept (now listing) (now rows) lines × (lines ≤ 1638) ⌝ }
+    requires { ⌜ AtPoint (now low) (now high) (now stripes) m ⌝ }
     requires { ⌜ Limited i ⌝ }
+    requires { ⌜ SizedRows (now «edge_stripes») ⌝ }
     requires { ⌜ PointLines (now listing) lines next ⌝ }
-    ensures { λ r. ⌜ r ≡ nextOwed (now (listing .entry)) line i (known f) next ⌝ }
+    ensures { λ r. ⌜ r ≡ nextOwed (now (listing .entry)) line i (known (now (low .entry)) (now (high .entry)) (now (stripes .entry)) m) next ⌝ }
+    ensures { λ r. ⌜ SizedRows (now («edge_stripes» .exit)) ⌝ }
 {
     if reader::whole::goes_on(i) {
-        return edge_owed(listing, lines, line, Edge::Next, i, f, next);
+        return edge_owed(
+            listing,
+            rows,
+            lines,
+            line,
+            Edge::Next,
+            i,
+            low,
+            high,
+            stripes,
+            m,
+            edge_low,
+            edge_high,
+            edge_stripes,
+            next,
+        );
     }
     Judgement::Accepted
 }
 
 // 14 along the edge to the target, if there is one.
-fn target_owed(
-    listing: &[u8],
+fn target_owed<'a>(
+    listing: &'a [u8],
+    rows: &'a [u64],
     lines: usize,
     line: usize,
     i: Instruction,
-    f: Facts,
+    low: &'a [u64; 18],
+    high: &'a [u64; 18],
+    stripes: &'a [u64; 60],
+    m: usize,
+    edge_low: &'a mut [u64; 18],
+    edge_high: &'a mut [u64; 18],
+    edge_stripes: &'a mut [u64; 60],
     target: Point,
 ) -> Judgement
-    requires { ⌜ (lines ≤ 1638) × (lines * 40 ≤ length (now listing)) ⌝ }
-    requires { ⌜ AtPoint f ⌝ }
+    requires { ⌜ Kept (now listing) (now rows) lines × (lines ≤ 1638) ⌝ }
+    requires { ⌜ AtPoint (now low) (now high) (now stripes) m ⌝ }
     requires { ⌜ Limited i ⌝ }
+    requires { ⌜ SizedRows (now «edge_stripes») ⌝ }
     requires { ⌜ PointLines (now listing) lines target ⌝ }
-    ensures { λ r. ⌜ r ≡ targetOwed (now (listing .entry)) line i (known f) target ⌝ }
+    ensures { λ r. ⌜ r ≡ targetOwed (now (listing .entry)) line i (known (now (low .entry)) (now (high .entry)) (now (stripes .entry)) m) target ⌝ }
+    ensures { λ r. ⌜ SizedRows (now («edge_stripes» .exit)) ⌝ }
 {
     if has_target(i) {
         let t = target_of(i, 0);
-        return edge_owed(listing, lines, line, Edge::Target(t), i, f, target);
+        return edge_owed(
+            listing,
+            rows,
+            lines,
+            line,
+            Edge::Target(t),
+            i,
+            low,
+            high,
+            stripes,
+            m,
+            edge_low,
+            edge_high,
+            edge_stripes,
+            target,
+        );
     }
     Judgement::Accepted
 }
 
-// Everything that the point q owes, in order.
-fn point_owed(listing: &[u8], lines: usize, q: Point, next: Point, target: Point) -> Judgement
-    requires { ⌜ (lines ≤ 1638) × (lines * 40 ≤ length (now listing)) ⌝ }
+// Everything that the point q owes, in order. The arrays are lent to be written in.
+fn point_owed<'a>(
+    listing: &'a [u8],
+    rows: &'a [u64],
+    lines: usize,
+    q: Point,
+    next: Point,
+    target: Point,
+    low: &'a mut [u64; 18],
+    high: &'a mut [u64; 18],
+    stripes: &'a mut [u64; 60],
+    edge_low: &'a mut [u64; 18],
+    edge_high: &'a mut [u64; 18],
+    edge_stripes: &'a mut [u64; 60],
+) -> Judgement
+    requires { ⌜ Kept (now listing) (now rows) lines × (lines ≤ 1638) ⌝ }
     requires { ⌜ Limited (q .instruction) ⌝ }
     requires { ⌜ PointLines (now listing) lines q × PointLines (now listing) lines next × PointLines (now listing) lines target ⌝ }
+    requires { ⌜ Standing (now stripes) 0 × SizedRows (now «edge_stripes») ⌝ }
     ensures { λ r. ⌜ r ≡ owed (now (listing .entry)) q next target ⌝ }
+    ensures { λ r. ⌜ Standing (now (stripes .exit)) 0 × SizedRows (now («edge_stripes» .exit)) ⌝ }
 {
     let i = q.instruction;
-    let f = facts_of(listing, first_of(q), q.claims);
-    let s = safety_judged(q.line, f, i);
+    let from = first_of(q);
+    let m = facts_of(listing, rows, lines, from, q.claims, low, high, stripes);
+    let s = safety_judged(q.line, low, high, stripes, m, i);
     if is_refused(s) {
         return s;
     }
-    let n = next_owed(listing, lines, q.line, i, f, next);
+    let n = next_owed(
+        listing,
+        rows,
+        lines,
+        q.line,
+        i,
+        low,
+        high,
+        stripes,
+        m,
+        edge_low,
+        edge_high,
+        edge_stripes,
+        next,
+    );
     if is_refused(n) {
         return n;
     }
-    target_owed(listing, lines, q.line, i, f, target)
+    target_owed(
+        listing,
+        rows,
+        lines,
+        q.line,
+        i,
+        low,
+        high,
+        stripes,
+        m,
+        edge_low,
+        edge_high,
+        edge_stripes,
+        target,
+    )
 }
 
 // 12 to 14 over the points of a listing, in order.
-pub fn points_judged(listing: &[u8], points: [Point; 514], count: usize) -> Judgement
+pub fn points_judged<'a>(
+    listing: &'a [u8],
+    rows: &'a [u64],
+    at: &'a [u16],
+    count: usize,
+) -> Judgement
     requires { ⌜ listingOf (now listing) ≡ readAs (pointsOf (listingOf (now listing))) ⌝ }
-    requires { ⌜ points ≡ tableTo (now listing) (length (now listing) / 40) ⌝ }
+    requires { ⌜ Filled (now listing) (now rows) (now at) (length (now listing) / 40) count ⌝ }
     requires { ⌜ count ≡ length (pointsOf (listingOf (now listing))) ⌝ }
     ensures { λ r. ⌜ r ≡ Check.pointsJudged (pointsOf (listingOf (now (listing .entry)))) count ⌝ }
 {
     let lines = listing.len() / 40;
+    let mut low = [0u64; 18];
+    let mut high = [0u64; 18];
+    let mut stripes = [0u64; 60];
+    let mut edge_low = [0u64; 18];
+    let mut edge_high = [0u64; 18];
+    let mut edge_stripes = [0u64; 60];
     let mut p = 0;
     while p < count {
-        let q = points[p];
+        let q = point_at(listing, rows, at, lines, count, p);
         let i = q.instruction;
         let a = next_of(i, p);
         let b = target_of(i, p);
-        let j = point_owed(listing, lines, q, points[a], points[b]);
+        let next = point_at(listing, rows, at, lines, count, a);
+        let target = point_at(listing, rows, at, lines, count, b);
+        let j = point_owed(
+            listing,
+            rows,
+            lines,
+            q,
+            next,
+            target,
+            &mut low,
+            &mut high,
+            &mut stripes,
+            &mut edge_low,
+            &mut edge_high,
+            &mut edge_stripes,
+        );
         if is_refused(j) {
             return j;
         }

@@ -1,13 +1,7 @@
 // Refusals 12 and 13: whether the divisor or the access of a point is safe by what is known at the point itself.
-use domain::Facts;
-use goals::ends::highs;
-use goals::ends::lows;
 use goals::follows::goal_follows;
-use goals::links::links_of;
-use goals::rows::rows_of;
 use model::answers::Judgement;
 use model::answers::Refusal;
-use model::claims::Range;
 use model::claims::Stripe;
 use model::machine::Instruction;
 use model::machine::Operand;
@@ -22,11 +16,11 @@ ghost use Rattle.model.specs.declared.answers.Refusal.the-variants.{DivisorMayB
 ghost use Rattle.model.specs.Limits.{blankVariable, greatestLinks};
 ghost use Rattle.model.specs.Facts.{lo, hi};
 ghost use Rattle.model.specs.Machine.{bytesOf, sizeVariable};
-ghost use Rattle.model.specs.Transfer.{stripe};
+ghost use Rattle.model.specs.Transfer.{operandRange, stripe};
 ghost use Rattle.model.specs.Follows.{follows};
 ghost use Rattle.model.specs.Check.{divisorSafe, accessSafe, safetyJudged};
 ghost use Rattle.model.proofs.Limits.{OperandLimited, AccessLimited, Limited};
-ghost use Rattle.domain.specs.Known.{known, Words, AtPoint};
+ghost use Rattle.domain.specs.Known.{rangesOf, known, Ends, AtPoint};
 
 // The bytes of an access.
 fn bytes(w: Width) -> u64
@@ -50,46 +44,53 @@ fn size_variable(b: Table) -> u8
 }
 
 // Whether the divisor is never 0.
-fn divisor_safe(f: Facts, o: Operand) -> bool
-    requires { ⌜ AtPoint f ⌝ }
+fn divisor_safe<'a>(low: &'a [u64; 18], high: &'a [u64; 18], o: Operand) -> bool
+    requires { ⌜ Ends (now low) (now high) ⌝ }
     requires { ⌜ OperandLimited o ⌝ }
-    ensures { λ r. ⌜ r ≡ divisorSafe (known f) o ⌝ }
+    ensures { λ r. ⌜ r ≡ leb 1 (operandRange (rangesOf (now (low .entry)) (now (high .entry))) o .lo) ⌝ }
 {
-    let ranges = f.ranges;
     match o {
-        Operand::Variable(v) => {
-            let r = ranges[v];
-            1 <= r.lo
-        }
+        Operand::Variable(v) => 1 <= low[v],
         Operand::Number(c) => 1 <= c,
     }
 }
 
 // Whether the ranges alone keep the access inside its table.
-fn safe_by_ranges(ranges: [Range; 18], b: Table, w: Width, a: usize, i: usize, k: usize) -> bool
-    requires { ⌜ Words ranges ⌝ }
+fn safe_by_ranges<'a>(
+    low: &'a [u64; 18],
+    high: &'a [u64; 18],
+    b: Table,
+    w: Width,
+    a: usize,
+    i: usize,
+    k: usize,
+) -> bool
+    requires { ⌜ Ends (now low) (now high) ⌝ }
     requires { ⌜ AccessLimited a i k ⌝ }
-    ensures { λ r. ⌜ r ≡ leb (a * hi ranges i + k + bytesOf w) (lo ranges (sizeVariable b)) ⌝ }
+    ensures { λ r. ⌜ r ≡ leb (a * hi (rangesOf (now (low .entry)) (now (high .entry))) i + k + bytesOf w) (lo (rangesOf (now (low .entry)) (now (high .entry))) (sizeVariable b)) ⌝ }
 {
-    let index = ranges[i];
-    let size = ranges[size_variable(b) as usize];
+    let top = high[i];
+    let size = low[size_variable(b) as usize];
     let n = bytes(w);
-    a as u64 * index.hi + k as u64 + n <= size.lo
+    a as u64 * top + k as u64 + n <= size
 }
 
 // Whether size - a * i >= k + w follows.
-fn safe_by_goal(f: Facts, b: Table, w: Width, a: usize, i: usize, k: usize) -> bool
-    requires { ⌜ AtPoint f ⌝ }
+fn safe_by_goal<'a>(
+    low: &'a [u64; 18],
+    high: &'a [u64; 18],
+    stripes: &'a [u64; 60],
+    m: usize,
+    b: Table,
+    w: Width,
+    a: usize,
+    i: usize,
+    k: usize,
+) -> bool
+    requires { ⌜ AtPoint (now low) (now high) (now stripes) m ⌝ }
     requires { ⌜ AccessLimited a i k ⌝ }
-    ensures { λ r. ⌜ r ≡ follows (known f) greatestLinks (stripe (sizeVariable b) a i blankVariable (k + bytesOf w) 0) ⌝ }
+    ensures { λ r. ⌜ r ≡ follows (known (now (low .entry)) (now (high .entry)) (now (stripes .entry)) m) greatestLinks (stripe (sizeVariable b) a i blankVariable (k + bytesOf w) 0) ⌝ }
 {
-    let ranges = f.ranges;
-    let stripes = f.stripes;
-    let high = highs(ranges);
-    let low = lows(ranges);
-    let rows = rows_of(stripes, f.count);
-    let found = links_of(stripes, f.count);
-    let links = found.rows;
     let x = size_variable(b);
     let n = bytes(w);
     let g = Stripe {
@@ -100,59 +101,85 @@ fn safe_by_goal(f: Facts, b: Table, w: Width, a: usize, i: usize, k: usize) -> b
         plus: k as u64 + n,
         minus: 0,
     };
-    goal_follows(&high, &low, &rows, f.count, &links, found.count, g)
+    goal_follows(high, low, stripes, m, g)
 }
 
 // Whether the access lies inside its table.
-fn access_safe(f: Facts, b: Table, w: Width, a: usize, i: usize, k: usize) -> bool
-    requires { ⌜ AtPoint f ⌝ }
+fn access_safe<'a>(
+    low: &'a [u64; 18],
+    high: &'a [u64; 18],
+    stripes: &'a [u64; 60],
+    m: usize,
+    b: Table,
+    w: Width,
+    a: usize,
+    i: usize,
+    k: usize,
+) -> bool
+    requires { ⌜ AtPoint (now low) (now high) (now stripes) m ⌝ }
     requires { ⌜ AccessLimited a i k ⌝ }
-    ensures { λ r. ⌜ r ≡ accessSafe (known f) b w a i k ⌝ }
+    ensures { λ r. ⌜ r ≡ accessSafe (known (now (low .entry)) (now (high .entry)) (now (stripes .entry)) m) b w a i k ⌝ }
 {
-    let ranges = f.ranges;
-    if safe_by_ranges(ranges, b, w, a, i, k) {
+    if safe_by_ranges(low, high, b, w, a, i, k) {
         return true;
     }
-    safe_by_goal(f, b, w, a, i, k)
+    safe_by_goal(low, high, stripes, m, b, w, a, i, k)
 }
 
 // The judgement of a divisor.
-fn divisor_judged(line: usize, f: Facts, o: Operand) -> Judgement
-    requires { ⌜ AtPoint f ⌝ }
+fn divisor_judged<'a>(
+    line: usize,
+    low: &'a [u64; 18],
+    high: &'a [u64; 18],
+    stripes: &'a [u64; 60],
+    m: usize,
+    o: Operand,
+) -> Judgement
+    requires { ⌜ AtPoint (now low) (now high) (now stripes) m ⌝ }
     requires { ⌜ OperandLimited o ⌝ }
-    ensures { λ r. ⌜ r ≡ cond (divisorSafe (known f) o) Accepted (Refused (DivisorMayBeZero line)) ⌝ }
+    ensures { λ r. ⌜ r ≡ cond (divisorSafe (known (now (low .entry)) (now (high .entry)) (now (stripes .entry)) m) o) Accepted (Refused (DivisorMayBeZero line)) ⌝ }
 {
-    if divisor_safe(f, o) {
+    if divisor_safe(low, high, o) {
         return Judgement::Accepted;
     }
     Judgement::Refused(Refusal::DivisorMayBeZero { line })
 }
 
 // The judgement of an access.
-fn access_judged(
+fn access_judged<'a>(
     line: usize,
-    f: Facts,
+    low: &'a [u64; 18],
+    high: &'a [u64; 18],
+    stripes: &'a [u64; 60],
+    m: usize,
     b: Table,
     w: Width,
     a: usize,
     i: usize,
     k: usize,
 ) -> Judgement
-    requires { ⌜ AtPoint f ⌝ }
+    requires { ⌜ AtPoint (now low) (now high) (now stripes) m ⌝ }
     requires { ⌜ AccessLimited a i k ⌝ }
-    ensures { λ r. ⌜ r ≡ cond (accessSafe (known f) b w a i k) Accepted (Refused (AccessMayLeave line)) ⌝ }
+    ensures { λ r. ⌜ r ≡ cond (accessSafe (known (now (low .entry)) (now (high .entry)) (now (stripes .entry)) m) b w a i k) Accepted (Refused (AccessMayLeave line)) ⌝ }
 {
-    if access_safe(f, b, w, a, i, k) {
+    if access_safe(low, high, stripes, m, b, w, a, i, k) {
         return Judgement::Accepted;
     }
     Judgement::Refused(Refusal::AccessMayLeave { line })
 }
 
 // The judgement of a point's own safety.
-pub fn safety_judged(line: usize, f: Facts, i: Instruction) -> Judgement
-    requires { ⌜ AtPoint f ⌝ }
+pub fn safety_judged<'a>(
+    line: usize,
+    low: &'a [u64; 18],
+    high: &'a [u64; 18],
+    stripes: &'a [u64; 60],
+    m: usize,
+    i: Instruction,
+) -> Judgement
+    requires { ⌜ AtPoint (now low) (now high) (now stripes) m ⌝ }
     requires { ⌜ Limited i ⌝ }
-    ensures { λ r. ⌜ r ≡ safetyJudged line (known f) i ⌝ }
+    ensures { λ r. ⌜ r ≡ safetyJudged line (known (now (low .entry)) (now (high .entry)) (now (stripes .entry)) m) i ⌝ }
 {
     match i {
         Instruction::Stop => Judgement::Accepted,
@@ -161,7 +188,7 @@ pub fn safety_judged(line: usize, f: Facts, i: Instruction) -> Judgement
         Instruction::Addw { d: _, i: _, o: _ } => Judgement::Accepted,
         Instruction::Subw { d: _, i: _, o: _ } => Judgement::Accepted,
         Instruction::Mulw { d: _, i: _, o: _ } => Judgement::Accepted,
-        Instruction::Divf { d: _, i: _, o } => divisor_judged(line, f, o),
+        Instruction::Divf { d: _, i: _, o } => divisor_judged(line, low, high, stripes, m, o),
         Instruction::Load {
             d: _,
             w,
@@ -169,14 +196,14 @@ pub fn safety_judged(line: usize, f: Facts, i: Instruction) -> Judgement
             a,
             i: v,
             k,
-        } => access_judged(line, f, table, w, a, v, k),
+        } => access_judged(line, low, high, stripes, m, table, w, a, v, k),
         Instruction::Stor {
             v: _,
             w,
             a,
             i: v,
             k,
-        } => access_judged(line, f, Table::Results, w, a, v, k),
+        } => access_judged(line, low, high, stripes, m, Table::Results, w, a, v, k),
         Instruction::Jump { t: _ } => Judgement::Accepted,
         Instruction::Bltu { i: _, t: _, o: _ } => Judgement::Accepted,
         Instruction::Bequ { i: _, t: _, o: _ } => Judgement::Accepted,

@@ -1,46 +1,34 @@
-use mathlib.Core.Path.{sym, _∙_}
-use Rattle.checker.proofs.Checking.{check-unreadable, is-read, check-read}
+use native.Mathlib.Omega.{arith}
+use lib.ListN.{length-replicate}
 use borrow.Author.Needs.{needs}
 use Rattle.checker.proofs.check.Statement.{statement}
 use Rattle.checker.proofs.check.Tie as tie
 
-read-listing-requires : tie.Need-read-listing-requires
-read-listing-requires c κs = search needs
+slice-aggregate-check-in : tie.Need-slice-aggregate-check-in
+slice-aggregate-check-in c = search needs
 
-enum-known-j : tie.Need-enum-known-j
-enum-known-j c = search needs
-
-enum-told : tie.Need-enum-told
-enum-told c = search needs
-
-points-judged-requires : tie.Need-points-judged-requires
-points-judged-requires c κs = let r = is-read _ _ (c .before .before .before .read-listing .ensures) (c .before .enum-told .given .1) in (r .points, (r .table, r .count))
-
-enum-known-r : tie.Need-enum-known-r
-enum-known-r c = search needs
-
-enum-told-2 : tie.Need-enum-told-2
-enum-told-2 c = search needs
+check-in-requires : tie.Need-check-in-requires
+check-in-requires c κs = λ short. rw length-replicate (omega arith)
 
 returns : tie.Need-returns
-returns c = sym (check-unreadable _ _ (c .before .before .before .read-listing .ensures) _ (c .before .j .given .1))
+returns c = c .before .check-in .ensures
+
+slice-aggregate-check-in-2 : tie.Need-slice-aggregate-check-in-2
+slice-aggregate-check-in-2 c = search needs
+
+check-in-requires-2 : tie.Need-check-in-requires-2
+check-in-requires-2 c κs = λ short. rw length-replicate (omega arith)
 
 returns-2 : tie.Need-returns-2
-returns-2 c = sym (check-read _ _ (c .before .before .before .before .before .before .before .read-listing .ensures) (c .before .before .before .before .before .enum-told .given .1) _ (sym (c .before .r .given .1) ∙ c .before .before .before .points-judged .ensures))
-
-returns-3 : tie.Need-returns-3
-returns-3 c = sym (check-read _ _ (c .before .before .before .before .before .before .read-listing .ensures) (c .before .before .before .before .enum-told .given .1) _ (sym (c .enum-told2 .given .1) ∙ c .before .before .points-judged .ensures))
+returns-2 c = c .before .check-in2 .ensures
 
 pub check-spec : {M : Type 1} → statement M
 check-spec =
     tie.close
     (tie.spec
-    read-listing-requires
-    enum-known-j
-    enum-told
-    points-judged-requires
-    enum-known-r
-    enum-told-2
+    slice-aggregate-check-in
+    check-in-requires
     returns
-    returns-2
-    returns-3)
+    slice-aggregate-check-in-2
+    check-in-requires-2
+    returns-2)

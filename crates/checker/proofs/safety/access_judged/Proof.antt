@@ -13,4 +13,9 @@ returns-2 : tie.Need-returns-2
 returns-2 c = rw (← c .before .access-safe .ensures, c .if1 .left)
 
 pub access-judged-spec : {M : Type 1} → statement M
-access-judged-spec = tie.close (tie.spec access-safe-requires returns returns-2)
+access-judged-spec =
+    tie.close
+    (tie.spec
+    access-safe-requires
+    returns
+    returns-2)

@@ -4,7 +4,7 @@ use Rattle.checker.proofs.safety.access_safe.Statement.{statement}
 use Rattle.checker.proofs.safety.access_safe.Tie as tie
 
 safe-by-ranges-requires : tie.Need-safe-by-ranges-requires
-safe-by-ranges-requires c κs = search needs
+safe-by-ranges-requires c κs = (c .pre .0 .ends, c .pre .1)
 
 returns : tie.Need-returns
 returns c = rw (← c .before .safe-by-ranges .ensures, c .if1 .taken)
@@ -17,4 +17,9 @@ returns-2 c = rw (← c .before .before .safe-by-ranges .ensures, c .before .if1
 
 pub access-safe-spec : {M : Type 1} → statement M
 access-safe-spec =
-    tie.close (tie.spec safe-by-ranges-requires returns safe-by-goal-requires returns-2)
+    tie.close
+    (tie.spec
+    safe-by-ranges-requires
+    returns
+    safe-by-goal-requires
+    returns-2)

@@ -1,16 +1,20 @@
 -- A scale of one byte times an end of 32 bits stays within 64 bits. Assumes nothing.
+use mathlib.Core.Path.{_∙_}
 use native.Mathlib.Nat.{mul-le-mul}
 use native.Mathlib.Omega.{arith}
-use Rattle.checker.proofs.Laying.{access-ranges}
 use borrow.Author.Needs.{needs}
+use Rattle.domain.specs.Known.{rangesOf}
+use Rattle.domain.proofs.Held.{low-held, high-held}
+use Rattle.domain.proofs.Points.{ends-even}
+use Rattle.checker.proofs.Laying.{access-ranges}
 use Rattle.checker.proofs.safety.safe_by_ranges.Statement.{statement}
 use Rattle.checker.proofs.safety.safe_by_ranges.Tie as tie
 
-mul-index : tie.Need-mul-index
-mul-index c = search needs
+mul-top : tie.Need-mul-top
+mul-top c = search needs
 
-array-copy-out-index : tie.Need-array-copy-out-index
-array-copy-out-index c = search needs
+element-copy-out-top : tie.Need-element-copy-out-top
+element-copy-out-top c = search needs
 
 size-variable-requires : tie.Need-size-variable-requires
 size-variable-requires c κs = search needs
@@ -21,42 +25,39 @@ cast-size c = search needs
 mul-size : tie.Need-mul-size
 mul-size c = search needs
 
-array-copy-out-size : tie.Need-array-copy-out-size
-array-copy-out-size c = search needs
+element-copy-out-size : tie.Need-element-copy-out-size
+element-copy-out-size c = search needs
 
 bytes-requires : tie.Need-bytes-requires
 bytes-requires c κs = search needs
 
 mul-result : tie.Need-mul-result
-mul-result c =
-    let start = c .before .before .before .before .before in
-    omega (arith, mul-le-mul (start .pre .1 .scale) (start .pre .0 (start .args .i) .high))
+mul-result c = let start = c .before .before .before .before in omega (arith, mul-le-mul (start .pre .1 .scale) (start .pre .0 .highs .most (start .args .i) (start .pre .1 .variable)))
 
 add-result : tie.Need-add-result
-add-result c =
-    let start = c .before .before .before .before .before in
-    omega (arith, mul-le-mul (start .pre .1 .scale) (start .pre .0 (start .args .i) .high))
+add-result c = let start = c .before .before .before .before in omega (arith, mul-le-mul (start .pre .1 .scale) (start .pre .0 .highs .most (start .args .i) (start .pre .1 .variable)))
 
 add-result-2 : tie.Need-add-result-2
-add-result-2 c =
-    let start = c .before .before .before .before .before in
-    omega (arith, mul-le-mul (start .pre .1 .scale) (start .pre .0 (start .args .i) .high))
+add-result-2 c = let start = c .before .before .before .before in omega (arith, mul-le-mul (start .pre .1 .scale) (start .pre .0 .highs .most (start .args .i) (start .pre .1 .variable)))
 
 returns : tie.Need-returns
 returns c =
-    let a = c .before .before .before .before .before .before .args in
-    access-ranges (a .b) (a .w) (a .a) (a .i) (a .k) _ _ (c .before .before .before .before .size-variable .ensures .0) (c .before .before .bytes .ensures .0) (a .t1)
+    let start = c .before .before .before .before in
+    let a = start .args in
+    let even = ends-even _ _ (start .pre .0) in
+    rw (← low-held (a .low .now) (a .high .now) (c .before .before .size-variable .result) even, ← high-held (a .low .now) (a .high .now) (a .i) even)
+    (access-ranges (a .b) (a .w) (a .a) (a .i) (a .k) _ _ (c .before .before .size-variable .ensures .0) (c .bytes .ensures .0) (rangesOf (a .low .now) (a .high .now)))
 
 pub safe-by-ranges-spec : {M : Type 1} → statement M
 safe-by-ranges-spec =
     tie.close
     (tie.spec
-    mul-index
-    array-copy-out-index
+    mul-top
+    element-copy-out-top
     size-variable-requires
     cast-size
     mul-size
-    array-copy-out-size
+    element-copy-out-size
     bytes-requires
     mul-result
     add-result
