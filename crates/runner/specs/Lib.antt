@@ -1,0 +1,4 @@
+pub mod Stepped
+pub mod Meets
+pub mod Runs
+pub mod Promise

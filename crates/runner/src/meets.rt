@@ -1,0 +1,109 @@
+// Refusal 17: whether the values of all variables meet the facts of a point.
+ghost use mathlib.Core.Path.{_≡_};
+ghost use Prim.Native.Nat.{_*_, _≤_, _<_};
+ghost use lib.ListN.{length};
+ghost use Rattle.model.specs.Limits.{variables, MAX, greatestBound};
+ghost use Rattle.model.specs.Lists.{every};
+ghost use Rattle.model.specs.Facts as Model;
+ghost use Rattle.model.specs.Facts.{valueAt, stripeHolds};
+ghost use Rattle.goals.specs.Sizes.{stripesAlong, Numbers};
+ghost use Rattle.goals.specs.Rows.{stripeAt};
+ghost use Rattle.domain.specs.Known.{rangesOf, stripesOf, known, Ends, Bytes, Standing, AtPoint};
+ghost use Rattle.runner.specs.Meets.{inOwnRange, inRanges};
+
+// A value as a number that ends and bounds are added to.
+fn wide(x: u32) -> u64
+    ensures { λ r. ⌜ (r ≡ x) × (r ≤ MAX) ⌝ }
+{
+    x as u64
+}
+
+// Whether a variable lies in its range.
+fn in_range<'a>(values: &'a [u32; 18], low: &'a [u64; 18], high: &'a [u64; 18], v: usize) -> bool
+    requires { ⌜ Ends (now low) (now high) × (v < 18) ⌝ }
+    ensures { λ b. ⌜ b ≡ inOwnRange (now (values .entry)) (rangesOf (now (low .entry)) (now (high .entry))) v ⌝ }
+{
+    let n = wide(values[v]);
+    (low[v] <= n) & (n <= high[v])
+}
+
+// Whether every variable lies in its range.
+fn in_ranges<'a>(values: &'a [u32; 18], low: &'a [u64; 18], high: &'a [u64; 18]) -> bool
+    requires { ⌜ Ends (now low) (now high) ⌝ }
+    ensures { λ b. ⌜ b ≡ inRanges (now (values .entry)) (rangesOf (now (low .entry)) (now (high .entry))) ⌝ }
+{
+    let mut all = true;
+    let mut v = 0;
+    while v < 18 {
+        all = all & in_range(values, low, high, v);
+        v += 1;
+    }
+    all
+}
+
+// The value of a variable; of a blank one, 0.
+fn value_at(values: &[u32; 18], v: u64) -> u64
+    requires { ⌜ length (now values) ≡ variables ⌝ }
+    ensures { λ r. ⌜ (r ≡ valueAt (now (values .entry)) v) × (r ≤ MAX) ⌝ }
+{
+    let i = v as usize;
+    if i < 18 {
+        return wide(values[i]);
+    }
+    0
+}
+
+// A scale times the sum of two values.
+fn scaled(a: u64, n: u64) -> u64
+    requires { ⌜ (a < 256) × (n ≤ 8589934590) ⌝ }
+    ensures { λ r. ⌜ (r ≡ a * n) × (r ≤ 255 * n) ⌝ }
+{
+    a * n
+}
+
+// Whether the stripe of the i-th row holds.
+fn stripe_holds<'a>(values: &'a [u32; 18], stripes: &'a [u64; 60], i: usize) -> bool
+    requires { ⌜ length (now values) ≡ variables ⌝ }
+    requires { ⌜ Numbers (stripesAlong * 6) greatestBound (now stripes) ⌝ }
+    requires { ⌜ (i < stripesAlong) × Bytes (stripeAt (now stripes) i) ⌝ }
+    ensures { λ b. ⌜ b ≡ stripeHolds (now (values .entry)) (stripeAt (now (stripes .entry)) i) ⌝ }
+{
+    let at = i * 6;
+    let x = value_at(values, stripes[at]);
+    let y = value_at(values, stripes[at + 2]);
+    let z = value_at(values, stripes[at + 3]);
+    scaled(stripes[at + 1], y + z) + stripes[at + 4] <= x + stripes[at + 5]
+}
+
+// Whether the stripes of the first n rows hold.
+fn all_hold<'a>(values: &'a [u32; 18], stripes: &'a [u64; 60], n: usize) -> bool
+    requires { ⌜ length (now values) ≡ variables ⌝ }
+    requires { ⌜ Standing (now stripes) n ⌝ }
+    ensures { λ b. ⌜ b ≡ every (stripeHolds (now (values .entry))) (stripesOf (now (stripes .entry)) n) ⌝ }
+{
+    let mut all = true;
+    let mut i = 0;
+    while i < n {
+        all = all & stripe_holds(values, stripes, i);
+        i += 1;
+    }
+    all
+}
+
+// Whether the values meet what the arrays of a point know.
+pub fn meets<'a>(
+    values: &'a [u32; 18],
+    low: &'a [u64; 18],
+    high: &'a [u64; 18],
+    stripes: &'a [u64; 60],
+    n: usize,
+) -> bool
+    requires { ⌜ length (now values) ≡ variables ⌝ }
+    requires { ⌜ AtPoint (now low) (now high) (now stripes) n ⌝ }
+    ensures { λ b. ⌜ b ≡ Model.meets (now (values .entry)) (known (now (low .entry)) (now (high .entry)) (now (stripes .entry)) n) ⌝ }
+{
+    if in_ranges(values, low, high) {
+        return all_hold(values, stripes, n);
+    }
+    false
+}

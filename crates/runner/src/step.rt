@@ -1,0 +1,244 @@
+// One step of the machine, in place. No address and no divisor is tested: a passed listing makes no step that is an error.
+use crate::bytes::load;
+use crate::bytes::store;
+use crate::values::operand_value;
+use crate::values::put;
+use model::machine::Instruction;
+use model::machine::Operand;
+use model::machine::Table;
+use model::machine::Width;
+ghost use mathlib.Core.Path.{_≡_};
+ghost use mathlib.Core.Bool.{cond};
+ghost use Prim.Native.Nat.{_+_, _*_, _≤_, _<_};
+ghost use lib.ListN.{length};
+ghost use lib.Dec.{ltb, eqb};
+ghost use Rattle.model.specs.Facts.{valueAt};
+ghost use Rattle.model.specs.Machine as Machine;
+ghost use Rattle.model.specs.Machine.{operandAt, bytesOf, readBytes, writeBytes, sum};
+ghost use Rattle.model.specs.Run.{isStop};
+ghost use Rattle.model.proofs.Limits.{OperandLimited};
+ghost use Rattle.runner.specs.Stepped.{bytesIn, Written, Steppable, Stepped};
+
+// COPY: the value of a variable, written.
+fn copy(values: &mut [u32; 18], point: usize, d: usize, i: usize) -> usize
+    requires { ⌜ (point < 512) × (d < 16) × (i < 18) ⌝ }
+    ensures { λ r. ⌜ Written point d (valueAt (now (values .entry)) i) (now (values .entry)) r (now (values .exit)) ⌝ }
+{
+    let x = values[i];
+    put(values, d, x, point)
+}
+
+// ADDW: the sum, written.
+fn add(values: &mut [u32; 18], point: usize, d: usize, i: usize, o: Operand) -> usize
+    requires { ⌜ (point < 512) × (d < 16) × (i < 18) × OperandLimited o ⌝ }
+    ensures { λ r. ⌜ Written point d (sum (valueAt (now (values .entry)) i) (operandAt (now (values .entry)) o)) (now (values .entry)) r (now (values .exit)) ⌝ }
+{
+    let x = values[i];
+    let y = operand_value(values, o);
+    let z = std::num::wrapping_add_u32(x, y);
+    put(values, d, z, point)
+}
+
+// The difference as registers hold it.
+fn difference(x: u32, y: u32) -> u32
+    ensures { λ r. ⌜ r ≡ Machine.difference x y ⌝ }
+{
+    std::num::wrapping_sub_u32(x, y)
+}
+
+// SUBW: the difference, written.
+fn subtract(values: &mut [u32; 18], point: usize, d: usize, i: usize, o: Operand) -> usize
+    requires { ⌜ (point < 512) × (d < 16) × (i < 18) × OperandLimited o ⌝ }
+    ensures { λ r. ⌜ Written point d (Machine.difference (valueAt (now (values .entry)) i) (operandAt (now (values .entry)) o)) (now (values .entry)) r (now (values .exit)) ⌝ }
+{
+    let x = values[i];
+    let y = operand_value(values, o);
+    let z = difference(x, y);
+    put(values, d, z, point)
+}
+
+// The product as registers hold it.
+fn product(x: u32, y: u32) -> u32
+    ensures { λ r. ⌜ r ≡ Machine.product x y ⌝ }
+{
+    ((x as u64) * (y as u64) % 4_294_967_296) as u32
+}
+
+// MULW: the product, written.
+fn multiply(values: &mut [u32; 18], point: usize, d: usize, i: usize, o: Operand) -> usize
+    requires { ⌜ (point < 512) × (d < 16) × (i < 18) × OperandLimited o ⌝ }
+    ensures { λ r. ⌜ Written point d (Machine.product (valueAt (now (values .entry)) i) (operandAt (now (values .entry)) o)) (now (values .entry)) r (now (values .exit)) ⌝ }
+{
+    let x = values[i];
+    let y = operand_value(values, o);
+    let z = product(x, y);
+    put(values, d, z, point)
+}
+
+// The quotient, rounded down.
+fn quotient(x: u32, y: u32) -> u32
+    requires { ⌜ 0 < y ⌝ }
+    ensures { λ r. ⌜ r ≡ Machine.quotient x y ⌝ }
+{
+    x / y
+}
+
+// DIVF: the quotient, written. The divisor is above 0.
+fn divide(values: &mut [u32; 18], point: usize, d: usize, i: usize, o: Operand) -> usize
+    requires { ⌜ (point < 512) × (d < 16) × (i < 18) × OperandLimited o × (0 < operandAt (now values) o) ⌝ }
+    ensures { λ r. ⌜ Written point d (Machine.quotient (valueAt (now (values .entry)) i) (operandAt (now (values .entry)) o)) (now (values .entry)) r (now (values .exit)) ⌝ }
+{
+    let x = values[i];
+    let y = operand_value(values, o);
+    let z = quotient(x, y);
+    put(values, d, z, point)
+}
+
+// The address of an access, a whole number that is never reduced.
+fn address(a: usize, x: u32, k: usize) -> usize
+    requires { ⌜ a * x + k < 18446744073709551616 ⌝ }
+    ensures { λ r. ⌜ r ≡ Machine.address a x k ⌝ }
+{
+    a * (x as usize) + k
+}
+
+// The number that an access to a table finds.
+fn load_from(b: Table, trays: &[u8], results: &[u8], at: usize, w: Width) -> u32
+    requires { ⌜ at + bytesOf w ≤ length (bytesIn b (now trays) (now results)) ⌝ }
+    ensures { λ r. ⌜ r ≡ readBytes (bytesOf w) (bytesIn b (now (trays .entry)) (now (results .entry))) at ⌝ }
+{
+    match b {
+        Table::Trays => load(trays, at, w),
+        Table::Results => load(results, at, w),
+    }
+}
+
+// LOAD: the number found in a table, written. The access lies inside the table.
+fn load_to(
+    values: &mut [u32; 18],
+    point: usize,
+    trays: &[u8],
+    results: &[u8],
+    d: usize,
+    w: Width,
+    b: Table,
+    a: usize,
+    i: usize,
+    k: usize,
+) -> usize
+    requires { ⌜ (point < 512) × (d < 16) × (i < 18) × (Machine.address a (valueAt (now values) i) k + bytesOf w ≤ length (bytesIn b (now trays) (now results))) ⌝ }
+    ensures { λ r. ⌜ Written point d (readBytes (bytesOf w) (bytesIn b (now (trays .entry)) (now (results .entry))) (Machine.address a (valueAt (now (values .entry)) i) k)) (now (values .entry)) r (now (values .exit)) ⌝ }
+{
+    let x = values[i];
+    let at = address(a, x, k);
+    let z = load_from(b, trays, results, at, w);
+    put(values, d, z, point)
+}
+
+// STOR: the low bytes of a variable, stored in the results. The access lies inside them.
+fn store_from(
+    values: &[u32; 18],
+    point: usize,
+    results: &mut [u8],
+    v: usize,
+    w: Width,
+    a: usize,
+    i: usize,
+    k: usize,
+) -> usize
+    requires { ⌜ (point < 512) × (v < 18) × (i < 18) × (Machine.address a (valueAt (now values) i) k + bytesOf w ≤ length (now results)) ⌝ }
+    ensures { λ r. ⌜ (r ≡ point + 1) × (now (results .exit) ≡ writeBytes (bytesOf w) (now (results .entry)) (Machine.address a (valueAt (now (values .entry)) i) k) (valueAt (now (values .entry)) v)) ⌝ }
+{
+    let x = values[i];
+    let at = address(a, x, k);
+    let z = values[v];
+    store(results, at, w, z);
+    point + 1
+}
+
+// Where BLTU goes.
+fn if_less(values: &[u32; 18], point: usize, i: usize, t: usize, o: Operand) -> usize
+    requires { ⌜ (point < 512) × (i < 18) × OperandLimited o ⌝ }
+    ensures { λ r. ⌜ r ≡ cond (ltb (valueAt (now (values .entry)) i) (operandAt (now (values .entry)) o)) t (point + 1) ⌝ }
+{
+    let x = values[i];
+    let y = operand_value(values, o);
+    if x < y { t } else { point + 1 }
+}
+
+// Where BEQU goes.
+fn if_equal(values: &[u32; 18], point: usize, i: usize, t: usize, o: Operand) -> usize
+    requires { ⌜ (point < 512) × (i < 18) × OperandLimited o ⌝ }
+    ensures { λ r. ⌜ r ≡ cond (eqb (valueAt (now (values .entry)) i) (operandAt (now (values .entry)) o)) t (point + 1) ⌝ }
+{
+    let x = values[i];
+    let y = operand_value(values, o);
+    if x == y { t } else { point + 1 }
+}
+
+// One step: the point that it leads to. The values and the results are changed in place.
+pub fn step(
+    i: Instruction,
+    point: usize,
+    values: &mut [u32; 18],
+    trays: &[u8],
+    results: &mut [u8],
+) -> usize
+    requires { ⌜ Steppable i point (now values) (now trays) (now results) ⌝ }
+    ensures { λ r. ⌜ Stepped i (now (trays .entry)) point (now (values .entry)) (now (results .entry)) r (now (values .exit)) (now (results .exit)) ⌝ }
+{
+    match i {
+        Instruction::Stop => point,
+        Instruction::Setc { d, c } => put(values, d, c, point),
+        Instruction::Copy { d, i } => copy(values, point, d, i),
+        Instruction::Addw { d, i, o } => add(values, point, d, i, o),
+        Instruction::Subw { d, i, o } => subtract(values, point, d, i, o),
+        Instruction::Mulw { d, i, o } => multiply(values, point, d, i, o),
+        Instruction::Divf { d, i, o } => divide(values, point, d, i, o),
+        Instruction::Load {
+            d,
+            w,
+            table,
+            a,
+            i,
+            k,
+        } => load_to(values, point, trays, results, d, w, table, a, i, k),
+        Instruction::Stor { v, w, a, i, k } => store_from(values, point, results, v, w, a, i, k),
+        Instruction::Jump { t } => t,
+        Instruction::Bltu { i, t, o } => if_less(values, point, i, t, o),
+        Instruction::Bequ { i, t, o } => if_equal(values, point, i, t, o),
+    }
+}
+
+// Whether an instruction is STOP.
+pub fn is_stop(i: Instruction) -> bool
+    ensures { λ r. ⌜ r ≡ isStop i ⌝ }
+{
+    match i {
+        Instruction::Stop => true,
+        Instruction::Setc { d: _, c: _ } => false,
+        Instruction::Copy { d: _, i: _ } => false,
+        Instruction::Addw { d: _, i: _, o: _ } => false,
+        Instruction::Subw { d: _, i: _, o: _ } => false,
+        Instruction::Mulw { d: _, i: _, o: _ } => false,
+        Instruction::Divf { d: _, i: _, o: _ } => false,
+        Instruction::Load {
+            d: _,
+            w: _,
+            table: _,
+            a: _,
+            i: _,
+            k: _,
+        } => false,
+        Instruction::Stor {
+            v: _,
+            w: _,
+            a: _,
+            i: _,
+            k: _,
+        } => false,
+        Instruction::Jump { t: _ } => false,
+        Instruction::Bltu { i: _, t: _, o: _ } => false,
+        Instruction::Bequ { i: _, t: _, o: _ } => false,
+    }
+}
