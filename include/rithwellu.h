@@ -1,4 +1,4 @@
-/* The checker for C. Link with target/staticlib/libexports.a (rt staticlib exports). */
+/* The checker and the runner for C. Link with target/staticlib/libexports.a (rt staticlib exports). */
 #ifndef RITHWELLU_H
 #define RITHWELLU_H
 
@@ -18,6 +18,28 @@ void rithwellu_check(const uint8_t *listing, size_t len, uint64_t answer[4]);
 
 /* The line of 40 bytes that the program prints for the listing. */
 void rithwellu_print(const uint8_t *listing, size_t len, uint8_t line[40]);
+
+/* A run of the listing from a point and sixteen registers, over both tables, with a budget of steps.
+   The registers and the results then hold what the run hands back:
+   answer[0] 0 stopped, 1 paused, 2 turned back;
+   answer[1] to answer[3] the number of the refusal, its place and its second place, else 0;
+   answer[4] the steps made;
+   answer[5] the point of the state handed back.
+   A run that is turned back changes no register and no byte of the results. The lent parts must not overlap. */
+void rithwellu_run(const uint8_t *listing, size_t len, size_t point, uint32_t registers[16],
+                   const uint8_t *trays, size_t trays_len, uint8_t *results, size_t results_len,
+                   uint32_t budget, uint64_t answer[6]);
+
+/* A state: a point and the registers. */
+typedef struct {
+    size_t point;
+    uint32_t registers[16];
+} rithwellu_state;
+
+/* The same run on a lent state, which it changes in place. */
+void rithwellu_run_in_place(const uint8_t *listing, size_t len, rithwellu_state *state,
+                            const uint8_t *trays, size_t trays_len, uint8_t *results,
+                            size_t results_len, uint32_t budget, uint64_t answer[6]);
 
 #ifdef __cplusplus
 }

@@ -1,0 +1,27 @@
+use Rattle.exports.specs.Answer.{runAnswer}
+use Rattle.model.specs.declared.answers.Outcome.{Outcome}
+use mathlib.Core.Path.{ap, _∙_}
+use borrow.Author.Needs.{needs}
+use Rattle.exports.proofs.rithwellu_run.Statement.{statement}
+use Rattle.exports.proofs.rithwellu_run.Tie as tie
+
+run-requires : tie.Need-run-requires
+run-requires c κs = search needs
+
+run-numbers-requires : tie.Need-run-numbers-requires
+run-numbers-requires c κs = search needs
+
+same-length : tie.Need-same-length
+same-length c = search needs
+
+returns : tie.Need-returns
+returns c =
+    let r = c .before .before .before .before .before .run .ensures in
+    record {
+      registers = ap (λ (o : Outcome). o .state .registers) (r .0);
+      results = r .1;
+      answer = c .run-numbers .ensures ∙ ap (λ (o : Outcome). runAnswer (o .report) (o .steps) (o .state .point)) (r .0);
+    }
+
+pub rithwellu-run-spec : {M : Type 1} → statement M
+rithwellu-run-spec = tie.close (tie.spec run-requires run-numbers-requires same-length returns)
