@@ -1,0 +1,4 @@
+pub mod Lining
+pub mod Saving
+pub mod Worked
+pub mod Numbering
