@@ -1,4 +1,4 @@
-//! The proved checker, as its static library offers it to C.
+//! The proved checker and runner, as their static library offers them to C. Any bytes, sizes and states may be passed.
 
 /// Number 0 and the points for a listing that passes, else the number of the refusal and its places.
 #[derive(Clone, Copy, Debug, PartialEq, Eq)]
@@ -9,10 +9,60 @@ pub struct Answer {
     pub points: u64,
 }
 
+/// A point and the registers, as the library lays them out.
+#[repr(C)]
+#[derive(Clone, Copy, Debug, PartialEq, Eq)]
+pub struct State {
+    pub point: usize,
+    pub registers: [u32; 16],
+}
+
+/// How a run ended.
+#[derive(Clone, Copy, Debug, PartialEq, Eq)]
+pub enum Report {
+    Stopped,
+    Paused,
+    Refused { number: u64, place: u64, second: u64 },
+}
+
+/// What a run hands back.
+#[derive(Clone, Copy, Debug, PartialEq, Eq)]
+pub struct Outcome {
+    pub report: Report,
+    pub state: State,
+    pub steps: u64,
+}
+
 extern "C" {
     fn rithwellu_check(listing: *const u8, len: usize, answer: *mut u64);
     fn rithwellu_print(listing: *const u8, len: usize, line: *mut u8);
+    fn rithwellu_run(
+        listing: *const u8,
+        listing_len: usize,
+        point: usize,
+        registers: *mut u32,
+        trays: *const u8,
+        trays_len: usize,
+        results: *mut u8,
+        results_len: usize,
+        budget: u32,
+        answer: *mut u64,
+    );
+    fn rithwellu_run_in_place(
+        listing: *const u8,
+        listing_len: usize,
+        state: *mut State,
+        trays: *const u8,
+        trays_len: usize,
+        results: *mut u8,
+        results_len: usize,
+        budget: u32,
+        answer: *mut u64,
+    );
 }
+
+/// The places of a run's answer: report, number, place, second place, steps, point.
+type RunAnswer = [u64; 6];
 
 pub fn check(listing: &[u8]) -> Answer {
     let mut answer = [0; 4];
@@ -28,4 +78,60 @@ pub fn printed(listing: &[u8]) -> [u8; 40] {
     // SAFETY: the library reads `len` bytes of the listing and writes forty bytes
     unsafe { rithwellu_print(listing.as_ptr(), listing.len(), line.as_mut_ptr()) };
     line
+}
+
+/// Checks the listing and runs it from the state for at most `budget` steps. A refusal gives back the state with 0
+/// steps and leaves the results untouched.
+pub fn run(listing: &[u8], state: State, trays: &[u8], results: &mut [u8], budget: u32) -> Outcome {
+    let mut registers = state.registers;
+    let mut answer: RunAnswer = [0; 6];
+    // SAFETY: the library reads the listing and the trays, reads and writes the results, each within its length, and
+    // reads and writes sixteen registers and six numbers
+    unsafe {
+        rithwellu_run(
+            listing.as_ptr(),
+            listing.len(),
+            state.point,
+            registers.as_mut_ptr(),
+            trays.as_ptr(),
+            trays.len(),
+            results.as_mut_ptr(),
+            results.len(),
+            budget,
+            answer.as_mut_ptr(),
+        )
+    };
+    let state = State { point: answer[5] as usize, registers };
+    Outcome { report: report(&answer), state, steps: answer[4] }
+}
+
+/// The same, over a state that is lent and changed in place. A refusal leaves it untouched.
+pub fn run_in_place(listing: &[u8], state: &mut State, trays: &[u8], results: &mut [u8], budget: u32) -> (Report, u64) {
+    let mut answer: RunAnswer = [0; 6];
+    // SAFETY: as in `run`; the state is read and written as it is laid out
+    unsafe {
+        rithwellu_run_in_place(
+            listing.as_ptr(),
+            listing.len(),
+            state,
+            trays.as_ptr(),
+            trays.len(),
+            results.as_mut_ptr(),
+            results.len(),
+            budget,
+            answer.as_mut_ptr(),
+        )
+    };
+    assert_eq!(answer[5], state.point as u64, "the answer and the state name the same point");
+    (report(&answer), answer[4])
+}
+
+fn report(answer: &RunAnswer) -> Report {
+    let [report, number, place, second, ..] = *answer;
+    match report {
+        0 => Report::Stopped,
+        1 => Report::Paused,
+        2 => Report::Refused { number, place, second },
+        other => panic!("the library answers report {other}"),
+    }
 }

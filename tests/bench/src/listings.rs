@@ -21,6 +21,15 @@ pub fn read_only() -> Vec<u8> {
     text
 }
 
+/// One guarded loop that stores: C6.
+pub fn small() -> Vec<u8> {
+    let whole = "STRP 17 4 1 _ _ 0;";
+    listing(&format!(
+        "{whole} SETC 0 _ _ _ _ 0; {whole} BLTU _ 0 _ 3 0 1; STOP; {whole} STRP 17 4 0 _ _ 4; STOR 2 4 _ 4 0 0;
+         {whole} ADDW 0 0 _ _ 1 1; {whole} JUMP _ _ _ 1"
+    ))
+}
+
 /// A routine of so many points: guarded loops over the results, one after the other.
 pub fn typical(points: usize) -> Vec<u8> {
     let mut random = Random::new(points as u64);
@@ -46,10 +55,10 @@ pub fn typical(points: usize) -> Vec<u8> {
 /// Where the only link that helps stands among those that a search goes through.
 #[derive(Clone, Copy, PartialEq, Eq)]
 pub enum KeyLink {
-    /// Added by the branch, after every written stripe.
-    AddedLast,
-    /// Written before every other stripe.
-    WrittenFirst,
+    /// Added by the branch, in front of every written stripe.
+    First,
+    /// Written after every other link.
+    Last,
 }
 
 /// x − a × (o + o) ≥ 5, from which every goal over i and i follows by two links o − i ≥ 0.
@@ -62,8 +71,8 @@ const LEAST_BOUND: i64 = -4_294_967_295;
 /// three variables, or are all equal; none of them helps, and they follow by ranges.
 pub fn worst(key: KeyLink, equal: bool) -> Vec<u8> {
     let others: &[(u8, u8)] = match key {
-        KeyLink::AddedLast => &[(1, 1), (3, 1), (2, 2), (3, 2), (1, 3), (2, 3), (3, 3)],
-        KeyLink::WrittenFirst => &[(1, 1), (2, 2), (1, 2), (3, 2), (2, 3), (3, 3)],
+        KeyLink::First => &[(1, 1), (3, 1), (2, 2), (3, 2), (1, 3), (2, 3), (3, 3)],
+        KeyLink::Last => &[(1, 1), (2, 2), (1, 2), (3, 2), (2, 3), (3, 3)],
     };
     let link = |&(u, v): &(u8, u8)| {
         let (u, v) = if equal { (1, 1) } else { (u, v) };
@@ -72,15 +81,15 @@ pub fn worst(key: KeyLink, equal: bool) -> Vec<u8> {
     let links: String = others.iter().map(link).collect();
     let goals: String = (0..others.len()).map(|less| format!("STRP 4 2 1 1 _ {};", 5 - less as i64)).collect();
     let (carried, branched) = match key {
-        KeyLink::AddedLast => ("", 2),
-        KeyLink::WrittenFirst => (KEY, 3),
+        KeyLink::First => ("", 2),
+        KeyLink::Last => (KEY, 3),
     };
     let mut text = Vec::new();
     let mut target = 2;
     loop {
         let branch = format!("BEQU _ 1 _ {target} 0 {branched};");
         let three = listing(&format!(
-            "{carried} {links} {STANDING} {branch} STOP; {carried} {STANDING} {goals} SETC 9 _ _ _ _ 0"
+            "{links} {carried} {STANDING} {branch} STOP; {carried} {STANDING} {goals} SETC 9 _ _ _ _ 0"
         ));
         if text.len() + three.len() + LINE > MOST_LINES * LINE {
             text.extend(listing("STOP"));

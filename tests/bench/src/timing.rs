@@ -82,8 +82,8 @@ fn processor_time() -> Duration {
     Duration::new(time.seconds as u64, time.nanoseconds as u32)
 }
 
-pub fn report(name: &str, lines: usize, measured: &Measured) -> String {
+pub fn report(name: &str, size: usize, measured: &Measured) -> String {
     let Measured { left, right, ratios } = measured;
     let (least, middle, greatest) = (ratios[0], ratios[ratios.len() / 2], ratios[ratios.len() - 1]);
-    format!("{name:<46} {lines:>5} {:>10.1} {:>9.1}   {least:>6.2} {middle:>6.2} {greatest:>6.2}", left[0], right[0])
+    format!("{name:<46} {size:>6} {:>10.1} {:>9.1}   {least:>6.2} {middle:>6.2} {greatest:>6.2}", left[0], right[0])
 }

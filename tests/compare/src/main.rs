@@ -5,38 +5,14 @@ use reference::Answer;
 use std::fs;
 use std::path::{Path, PathBuf};
 use std::process::{Command, ExitCode};
-use trials::{all, compare, of_reference, Tally, Verdict};
-
-#[derive(Default)]
-struct Count {
-    passed: u64,
-    failed: u64,
-}
-
-impl Count {
-    /// Counts one test and says what went wrong.
-    fn test(&mut self, outcome: Result<(), String>) {
-        match outcome {
-            Ok(()) => self.passed += 1,
-            Err(why) => {
-                self.failed += 1;
-                println!("failed: {why}");
-            }
-        }
-    }
-}
+use trials::{all, compare, of_reference, Count, Tally, Verdict};
 
 fn main() -> ExitCode {
     let mut count = Count::default();
     compare_families(&mut count);
     try_examples(&mut count);
     println!("counted: each family of listings, each example, and once that no answer is rare");
-    println!("{} passed, {} failed", count.passed, count.failed);
-    if count.failed == 0 {
-        ExitCode::SUCCESS
-    } else {
-        ExitCode::FAILURE
-    }
+    count.finish()
 }
 
 fn of_archive(listing: &[u8]) -> Verdict {

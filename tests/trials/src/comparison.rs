@@ -41,7 +41,7 @@ impl std::fmt::Display for Difference {
 }
 
 /// One line of output for each line of the listing, with strange bytes made visible.
-fn readable(listing: &[u8]) -> String {
+pub(crate) fn readable(listing: &[u8]) -> String {
     let line = |bytes: &[u8]| {
         let shown = bytes.strip_suffix(b"\n").unwrap_or(bytes);
         let ending = if shown.len() == bytes.len() { "| (no line feed)" } else { "|" };

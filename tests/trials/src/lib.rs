@@ -1,13 +1,16 @@
-//! Listings from fixed seeds, and the comparison of two checkers on them: where they differ, the smallest listing
-//! that still shows it.
+//! Listings and runs from fixed seeds, and the comparison of checkers and of runners on them: where they differ, the
+//! smallest listing or call that still shows it.
 
 pub mod comparison;
+pub mod count;
 pub mod draft;
 pub mod families;
 pub mod random;
+pub mod runs;
 pub mod shrink;
 pub mod tally;
 
 pub use comparison::{compare, of_reference, Difference, Verdict};
+pub use count::Count;
 pub use families::{all, Family};
 pub use tally::Tally;

@@ -6,6 +6,8 @@ pub const VARIABLES: usize = 18;
 /// Stands for a blank z; its greatest value is 0.
 pub const BLANK: u8 = 18;
 const MOST_STRIPES: usize = 10;
+/// Places in front of a point's own stripes, for what an instruction adds.
+const ADDED: usize = 2;
 
 #[derive(Clone, Copy)]
 pub struct Stripe {
@@ -22,6 +24,7 @@ pub struct Facts {
     pub lo: [i64; VARIABLES],
     pub hi: [i64; VARIABLES + 1],
     stripes: [Stripe; MOST_STRIPES],
+    first: usize,
     count: usize,
 }
 
@@ -66,8 +69,13 @@ impl Facts {
     /// What the claim lines of a point say.
     pub fn at(lines: &[[u8; LINE]]) -> Facts {
         let none = Stripe { x: 0, a: 1, y: 0, z: BLANK, b: 0 };
-        let mut facts =
-            Facts { lo: [0; VARIABLES], hi: [MAX as i64; VARIABLES + 1], stripes: [none; MOST_STRIPES], count: 0 };
+        let mut facts = Facts {
+            lo: [0; VARIABLES],
+            hi: [MAX as i64; VARIABLES + 1],
+            stripes: [none; MOST_STRIPES],
+            first: ADDED,
+            count: 0,
+        };
         facts.hi[16] = SIZE_LIMIT as i64;
         facts.hi[17] = SIZE_LIMIT as i64;
         facts.hi[BLANK as usize] = 0;
@@ -83,7 +91,7 @@ impl Facts {
 
     #[inline]
     pub fn stripes(&self) -> &[Stripe] {
-        &self.stripes[..self.count]
+        &self.stripes[self.first..self.first + self.count]
     }
 
     #[inline]
@@ -93,27 +101,42 @@ impl Facts {
 
     #[inline]
     fn push(&mut self, stripe: Stripe) {
-        self.stripes[self.count] = stripe;
+        self.stripes[self.first + self.count] = stripe;
+        self.count += 1;
+    }
+
+    /// What an instruction adds stands in front, as in the proved checker, so that both search in the same order.
+    #[inline]
+    fn add_stripe(&mut self, stripe: Stripe) {
+        self.first -= 1;
+        self.stripes[self.first] = stripe;
         self.count += 1;
     }
 
     #[inline]
-    fn push_difference(&mut self, x: u8, y: u8, b: i64) {
-        self.push(Stripe { x, a: 1, y, z: BLANK, b });
+    fn add_difference(&mut self, x: u8, y: u8, b: i64) {
+        self.add_stripe(Stripe { x, a: 1, y, z: BLANK, b });
+    }
+
+    /// Two differences, the first in front.
+    #[inline]
+    fn add_both(&mut self, x: u8, y: u8, b: i64) {
+        self.add_difference(y, x, -b);
+        self.add_difference(x, y, b);
     }
 
     /// Keeps the stripes that the test keeps, in their order; the test may change them.
     #[inline]
     fn retain(&mut self, mut keeps: impl FnMut(&mut Stripe) -> bool) {
-        let mut kept = 0;
-        for at in 0..self.count {
+        let mut kept = self.first;
+        for at in self.first..self.first + self.count {
             let mut stripe = self.stripes[at];
             if keeps(&mut stripe) {
                 self.stripes[kept] = stripe;
                 kept += 1;
             }
         }
-        self.count = kept;
+        self.count = kept - self.first;
     }
 
     #[inline]
@@ -146,8 +169,7 @@ impl Facts {
             return;
         }
         self.write(d, self.lo[i as usize], self.hi[i as usize]);
-        self.push_difference(d, i, 0);
-        self.push_difference(i, d, 0);
+        self.add_both(d, i, 0);
     }
 
     pub fn add(&mut self, d: u8, i: u8, o: Operand) {
@@ -161,7 +183,7 @@ impl Facts {
             Operand::Variable(v) => {
                 self.write(d, lo, hi);
                 if d != i && d != v {
-                    self.push(Stripe { x: d, a: 1, y: i, z: v, b: 0 });
+                    self.add_stripe(Stripe { x: d, a: 1, y: i, z: v, b: 0 });
                 }
             }
         }
@@ -178,7 +200,7 @@ impl Facts {
             Operand::Variable(v) => {
                 self.write(d, lo, hi);
                 if d != i && d != v {
-                    self.push(Stripe { x: i, a: 1, y: d, z: v, b: 0 });
+                    self.add_stripe(Stripe { x: i, a: 1, y: d, z: v, b: 0 });
                 }
             }
         }
@@ -188,8 +210,7 @@ impl Facts {
     fn shift(&mut self, d: u8, i: u8, lo: i64, hi: i64, by: i64) {
         if d != i {
             self.write(d, lo, hi);
-            self.push_difference(d, i, by);
-            self.push_difference(i, d, -by);
+            self.add_both(d, i, by);
             return;
         }
         self.set(d, lo, hi);
@@ -211,7 +232,7 @@ impl Facts {
         self.write(d, least as i64, most as i64);
         if let Operand::Number(scale @ 1..=255) = o {
             if d != i {
-                self.push(Stripe { x: d, a: scale as u8, y: i, z: BLANK, b: 0 });
+                self.add_stripe(Stripe { x: d, a: scale as u8, y: i, z: BLANK, b: 0 });
             }
         }
     }
@@ -233,7 +254,7 @@ impl Facts {
         if let Operand::Variable(v) = o {
             let lo_o = &mut self.lo[v as usize];
             *lo_o = (*lo_o).max(lo + 1);
-            self.push_difference(v, i, 1);
+            self.add_difference(v, i, 1);
         }
     }
 
@@ -244,7 +265,7 @@ impl Facts {
         if let Operand::Variable(v) = o {
             let hi_o = &mut self.hi[v as usize];
             *hi_o = (*hi_o).min(hi);
-            self.push_difference(i, v, 0);
+            self.add_difference(i, v, 0);
         }
     }
 
@@ -254,8 +275,7 @@ impl Facts {
         self.set(i, lo, hi);
         if let Operand::Variable(v) = o {
             self.set(v, lo, hi);
-            self.push_difference(v, i, 0);
-            self.push_difference(i, v, 0);
+            self.add_both(v, i, 0);
         }
     }
 

@@ -1,11 +1,14 @@
-//! The checker as one would write it in plain safe Rust for speed: one pass over the text, fixed arrays, no heap.
-//! It is the yardstick of the benchmark and gives the same answers as the other two checkers.
+//! The checker and the runner as one would write them in plain safe Rust for speed: one pass over the text, fixed
+//! arrays, no heap. They are the yardstick of the benchmark and give the same answers as the other two.
 
 mod facts;
 mod follow;
 mod read;
 mod refusals;
+mod run;
 mod walk;
+
+pub use run::{run, Outcome, Report, State};
 
 /// Number 0 and the points for a listing that passes, else the number of the refusal and its places.
 #[derive(Clone, Copy, Debug, PartialEq, Eq)]
@@ -24,13 +27,16 @@ impl Answer {
 
 pub fn check(listing: &[u8]) -> Answer {
     let mut points = read::Points::none();
-    if let Err(answer) = points.read(listing) {
-        return answer;
-    }
-    match walk::walk(listing, points.as_slice()) {
+    match checked(listing, &mut points) {
         Err(answer) => answer,
         Ok(()) => Answer { number: 0, place: 0, second: 0, points: points.as_slice().len() as u64 },
     }
+}
+
+/// Refusals 1 to 14; the points of a passed listing are left in `points`.
+fn checked(listing: &[u8], points: &mut read::Points) -> Result<(), Answer> {
+    points.read(listing)?;
+    walk::walk(listing, points.as_slice())
 }
 
 /// The line that the program prints for a listing.

@@ -32,7 +32,7 @@ pub enum Instruction {
     Multiply { d: u8, i: u8, o: Operand },
     Divide { d: u8, i: u8, o: Operand },
     Load { d: u8, width: u8, size: u8, scale: u8, i: u8, offset: u16 },
-    Store { width: u8, scale: u8, i: u8, offset: u16 },
+    Store { stored: u8, width: u8, scale: u8, i: u8, offset: u16 },
     Jump { target: u16 },
     Less { i: u8, target: u16, o: Operand },
     Equal { i: u8, target: u16, o: Operand },
@@ -276,9 +276,8 @@ fn meaning(word: u32, f: &[Field; 6]) -> Option<Line> {
             Instruction::Load { d, width, size, scale, i: variable(f[4])?, offset: upto(f[5], 65_535)? as u16 }
         }
         STOR => {
-            variable(f[0])?;
-            let (width, scale) = (width(f[1])?, scale(f[3])?);
-            Instruction::Store { width, scale, i: variable(f[4])?, offset: upto(f[5], 65_535)? as u16 }
+            let (stored, width, scale) = (variable(f[0])?, width(f[1])?, scale(f[3])?);
+            Instruction::Store { stored, width, scale, i: variable(f[4])?, offset: upto(f[5], 65_535)? as u16 }
         }
         JUMP => Instruction::Jump { target: target(f[3])? },
         BLTU => Instruction::Less { i: variable(f[1])?, target: target(f[3])?, o: operand(f)? },

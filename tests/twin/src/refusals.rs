@@ -28,3 +28,9 @@ pub const DIVISOR_MAY_BE_ZERO: u64 = 12;
 pub const ACCESS_MAY_LEAVE: u64 = 13;
 /// A successor's claim not shown.
 pub const CLAIM_DOES_NOT_FOLLOW: u64 = 14;
+/// A table above its greatest size.
+pub const TABLE_TOO_LONG: u64 = 15;
+/// A point beyond the last.
+pub const NO_SUCH_POINT: u64 = 16;
+/// A state that does not meet its point's claims.
+pub const CLAIMS_NOT_MET: u64 = 17;

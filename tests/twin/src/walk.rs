@@ -59,7 +59,7 @@ impl Walk<'_> {
                 }
                 facts.write(d, 0, (1i64 << (8 * u32::from(width))) - 1);
             }
-            Instruction::Store { width, scale, i, offset } => {
+            Instruction::Store { width, scale, i, offset, .. } => {
                 let end = i64::from(offset) + i64::from(width);
                 if !access_is_safe(&facts, RESULTS_SIZE, scale, i, end) {
                     return refused(ACCESS_MAY_LEAVE);

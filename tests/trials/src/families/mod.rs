@@ -1,11 +1,11 @@
 //! The families of listings. Each is made of batches, and each batch comes from a seed of its own, so that any
 //! listing can be made again from the family and the batch.
 
-mod damage;
-mod limits;
-mod nudges;
-mod pieces;
-mod probes;
+pub(crate) mod damage;
+pub(crate) mod limits;
+pub(crate) mod nudges;
+pub(crate) mod pieces;
+pub(crate) mod probes;
 mod routines;
 
 pub use routines::{guarded_loop, routine, Loop};

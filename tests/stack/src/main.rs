@@ -1,0 +1,63 @@
+//! How much stack the calls of the static library take at their deepest: each runs on a thread whose stack was filled
+//! with one byte before, and the bytes that are no longer so are counted.
+
+mod painted;
+
+use archive::{check, printed, run, run_in_place, State};
+use lines::listing;
+use painted::stack_of;
+use std::hint::black_box;
+use trials::families::routine;
+use trials::random::Random;
+
+const ROUTINES: u64 = 40;
+const BUDGET: u32 = 1000;
+
+/// The listings: the smallest, one turned back by its text, one with goals that take all links, the longest, and routines.
+fn listings() -> Vec<Vec<u8>> {
+    let mut listings = vec![vec![], listing("STOP"), listing("STOP").repeat(1638), vec![b'?'; 65_520], links()];
+    listings.extend((0..ROUTINES).map(|seed| routine(&mut Random::new(seed)).text()));
+    listings.push(full());
+    listings
+}
+
+/// Goals that follow by three links, each found last.
+fn links() -> Vec<u8> {
+    let links = "STRP 1 1 1 _ _ -9; STRP 2 1 2 _ _ -9; STRP 3 1 3 _ _ -9; STRP 1 1 0 _ _ 0; STRP 2 1 1 _ _ 0;
+                 STRP 3 1 2 _ _ 0; STRP 17 4 3 _ _ 4;";
+    listing(&format!("{links} STOR 2 4 _ 4 0 0; STRP 17 4 0 _ _ 4; STRP 17 4 1 _ _ 4; JUMP _ _ _ 1"))
+}
+
+/// 512 points with claims, in a loop that stores.
+fn full() -> Vec<u8> {
+    let kept = "STRP 17 1 1 _ _ 4;";
+    let point = listing(&format!("{kept} STOR 2 4 _ 1 1 0;"));
+    let last = listing(&format!("{kept} JUMP _ _ _ 0"));
+    [point.repeat(511), last].concat()
+}
+
+/// The greatest stack over all listings.
+fn greatest<T>(call: impl Fn(&[u8]) -> T + Sync) -> usize {
+    let on = |listing: &Vec<u8>| {
+        stack_of(&|| {
+            black_box(call(listing));
+        })
+    };
+    listings().iter().map(on).max().unwrap_or(0)
+}
+
+fn main() {
+    for deep in [links(), full()] {
+        assert_eq!(check(&deep).number, 0, "the deep listings pass");
+    }
+    let state = State { point: 0, registers: [0; 16] };
+    let in_place = |listing: &[u8]| {
+        let mut state = state;
+        run_in_place(listing, &mut state, &[7; 64], &mut [0; 64], BUDGET)
+    };
+    println!("bytes of stack, the greatest over {} listings", listings().len());
+    println!("{:>8} check", greatest(check));
+    println!("{:>8} print", greatest(printed));
+    println!("{:>8} run", greatest(|listing| run(listing, state, &[7; 64], &mut [0; 64], BUDGET)));
+    println!("{:>8} run_in_place", greatest(in_place));
+}

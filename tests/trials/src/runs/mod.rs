@@ -1,0 +1,17 @@
+//! Runs from fixed seeds, and the comparison of runners on them: where one differs from the reference, the smallest
+//! call that still shows it.
+
+mod call;
+mod comparison;
+mod families;
+mod resume;
+mod shrink;
+mod starts;
+mod tally;
+mod watch;
+
+pub use call::{After, Call, Runner};
+pub use comparison::{compare_runs, RunDifference};
+pub use families::{all_runs, RunFamily, Trial};
+pub use tally::RunTally;
+pub use watch::watched;

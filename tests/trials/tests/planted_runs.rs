@@ -1,0 +1,147 @@
+//! A runner that is wrong on purpose is found out, and the call that shows it is small.
+
+use reference::{read, step, Arithmetic, Instruction, Operand, Outcome, Refusal, State, Step, MAX};
+use trials::runs::{all_runs, compare_runs, After, Call, RunDifference};
+
+/// The first difference between the reference and a wrong runner, in the family whose name has this part.
+fn found(part: &str, wrong: &dyn Fn(&Call) -> After) -> Box<RunDifference> {
+    let family = all_runs().into_iter().find(|family| family.name.contains(part)).expect("the family exists");
+    let difference = compare_runs(&family, &[("wrong", wrong)]).expect_err("the planted difference is found");
+    println!("{difference}");
+    difference
+}
+
+fn lines_of(difference: &RunDifference) -> usize {
+    difference.call.listing.len() / 40
+}
+
+/// Changes what a step led to: the instruction, the state before and after, and the results.
+type Change<'a> = &'a dyn Fn(&Instruction, &State, &mut State, &mut [u8]);
+
+/// The reference's run with something changed after each step.
+fn stepped(call: &Call, change: Change) -> After {
+    let mut after = call.by_reference();
+    if after.run.steps == 0 {
+        return after;
+    }
+    let listing = read(&call.listing).expect("it ran");
+    let (mut state, mut results) = (call.state, call.results.clone());
+    for _ in 0..after.run.steps {
+        let point = &listing.points[state.point as usize];
+        let Step::Moved(mut next) = step(&listing, &state, &call.trays, &mut results) else { break };
+        change(&point.instruction, &state, &mut next, &mut results);
+        state = next;
+    }
+    (after.run.state, after.results) = (state, results);
+    after
+}
+
+/// Sums that stay at the greatest number in place of wrapping.
+fn saturating(call: &Call) -> After {
+    stepped(call, &|instruction, before, next, _| {
+        if let Instruction::Compute { kind: Arithmetic::Add, d, i: i @ 0..=15, o: Operand::Number(number) } =
+            *instruction
+        {
+            if i128::from(before.registers[i]) + number > MAX {
+                next.registers[d] = u32::MAX;
+            }
+        }
+    })
+}
+
+/// Stores of two bytes with the greater one first.
+fn greater_byte_first(call: &Call) -> After {
+    stepped(call, &|instruction, before, _, results| {
+        if let Instruction::Store { width: 2, scale, i: i @ 0..=15, offset, .. } = *instruction {
+            let at = (scale * i128::from(before.registers[i]) + offset) as usize;
+            results.swap(at, at + 1);
+        }
+    })
+}
+
+/// Paused where the last unit of the budget comes to STOP.
+fn pauses_at_stop(call: &Call) -> After {
+    let mut after = call.by_reference();
+    if after.run.outcome == Outcome::Stopped && after.run.steps == u64::from(call.budget) {
+        after.run.outcome = Outcome::Paused;
+    }
+    after
+}
+
+/// The whole routine in the first call, however small the budget, with a pause feigned.
+fn runs_ahead(call: &Call) -> After {
+    let mut after = call.by_reference();
+    if after.run.outcome == Outcome::Paused {
+        after.results = Call { budget: call.budget.saturating_add(40), ..call.clone() }.by_reference().results;
+    }
+    after
+}
+
+/// 17 for a point that does not exist.
+fn no_sixteen(call: &Call) -> After {
+    let mut after = call.by_reference();
+    if let Outcome::Refused(Refusal { number: 16, .. }) = after.run.outcome {
+        after.run.outcome = Outcome::Refused(Refusal { number: 17, place: 0, second: 0 });
+    }
+    after
+}
+
+/// A refusal by 17 that clears the results first.
+fn clears_results(call: &Call) -> After {
+    let mut after = call.by_reference();
+    if let Outcome::Refused(Refusal { number: 17, .. }) = after.run.outcome {
+        after.results.fill(0);
+    }
+    after
+}
+
+/// A tray byte written where a step was made.
+fn writes_trays(call: &Call) -> After {
+    let mut after = call.by_reference();
+    if let (Some(byte), 1..) = (after.trays.last_mut(), after.run.steps) {
+        *byte ^= 1;
+    }
+    after
+}
+
+#[test]
+fn a_sum_that_does_not_wrap_is_found() {
+    let difference = found("every instruction", &saturating);
+    assert!(lines_of(&difference) <= 2 && difference.call.budget == 1, "{difference}");
+}
+
+#[test]
+fn bytes_in_the_wrong_order_are_found() {
+    let difference = found("every instruction", &greater_byte_first);
+    assert!(lines_of(&difference) <= 3 && difference.call.results.len() <= 4, "{difference}");
+}
+
+#[test]
+fn a_pause_at_stop_is_found() {
+    let difference = found("routines", &pauses_at_stop);
+    assert_eq!((lines_of(&difference), difference.call.budget), (1, 0));
+}
+
+#[test]
+fn a_run_ahead_of_its_budget_is_found() {
+    let difference = found("routines", &runs_ahead);
+    assert!(difference.call.budget == 0 && lines_of(&difference) <= 4, "{difference}");
+}
+
+#[test]
+fn a_wrong_number_is_found() {
+    let difference = found("does not exist", &no_sixteen);
+    assert_eq!((lines_of(&difference), difference.call.state.point), (1, 1));
+}
+
+#[test]
+fn results_changed_by_a_refusal_are_found() {
+    let difference = found("misses a claim", &clears_results);
+    assert!(lines_of(&difference) == 2 && difference.call.results.len() == 1, "{difference}");
+}
+
+#[test]
+fn a_changed_tray_is_found() {
+    let difference = found("routines", &writes_trays);
+    assert!(lines_of(&difference) <= 2 && difference.call.trays.len() == 1, "{difference}");
+}
