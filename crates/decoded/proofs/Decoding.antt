@@ -1,7 +1,7 @@
 -- The row of a line within its limits gives the line again. Assumes nothing.
 use mathlib.Core.Path.{_≡_, refl, ap, _∙_}
 use mathlib.Core.Bool.{Bool, true, false, cond}
-use Prim.Native.Nat.{ℕ, _%_, _≤_, _<_}
+use Prim.Native.Nat.{ℕ, _%_, _≤_}
 use native.Mathlib.Omega.{arith}
 use lib.Dec.{eqb}
 use Rattle.model.specs.declared.machine.Width.{Width}
@@ -19,7 +19,7 @@ use Rattle.model.specs.declared.claims.Line.the-variants.{Refused as refusedLin
 use Rattle.model.specs.Limits.{MAX}
 use Rattle.model.specs.Machine.{bytesOf}
 use Rattle.model.specs.Lines.{widthFrom, tableFrom}
-use Rattle.model.proofs.Limits.{OperandLimited, Limited, StripeLimited, ClaimLimited, LineLimited}
+use Rattle.model.proofs.Limits.{OperandLimited, Limited, ClaimLimited, LineLimited}
 use Rattle.model.specs.declared.answers.Refusal.the-variants.{ListingLength}
 use Rattle.decoded.specs.declared.rows.Row.{Row}
 use Rattle.decoded.specs.Encoded.{choiceOf, numberIn, tableNumber, instructionRow, claimRow, rowOf}

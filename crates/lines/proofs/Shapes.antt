@@ -9,7 +9,6 @@ use mathlib.Core.List.{List}
 use lib.ListN.{getD}
 use lib.Dec.{leb, eqb}
 use borrow.Author.Tests.{eqb-true, leb-true, le-leb, ne-eqb}
-use Rattle.model.specs.declared.text.Shape.{Shape}
 use Rattle.model.specs.declared.text.Shape.the-variants.{Spaces, Zero, Digits, Sign, Signed, Wrong}
 use Rattle.model.specs.declared.text.Field.the-variants.{Blank, Number, Negative, Misshapen}
 use Rattle.model.specs.Text.{space, isDigit, digitOf, nextShape, shapeOf, digitsOf, fieldOf}

@@ -10,7 +10,7 @@ use model::answers::Judgement;
 use model::answers::Refusal;
 ghost use mathlib.Core.Path.{_≡_};
 ghost use Prim.Native.Nat.{_≤_, _<_};
-ghost use Rattle.model.specs.Listing.{readTo, listingFrom, listingOf, goodLength, claimLines};
+ghost use Rattle.model.specs.Listing.{readTo, listingFrom, listingOf, goodLength};
 ghost use Rattle.reader.specs.Scan.{progressOf, tableTo};
 ghost use Rattle.reader.specs.Whole.{tableAt};
 ghost use Rattle.reader.specs.Kept.{Kept, Placed, Filled};

@@ -18,7 +18,6 @@ use crate::states::read_state;
 use crate::states::write_state;
 use libc::STDERR_FILENO;
 use libc::STDOUT_FILENO;
-use model::answers::Outcome;
 use model::answers::Report;
 use model::machine::State;
 

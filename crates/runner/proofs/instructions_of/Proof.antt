@@ -2,7 +2,6 @@
 use Prim.Native.Nat.{_≤_, _<_, _-_}
 use mathlib.Core.Path.{_≡_}
 use native.Mathlib.Omega.{arith}
-use borrow.Author.Needs.{needs}
 use Rattle.model.specs.declared.machine.Instruction.the-variants.{Stop}
 use Rattle.runner.specs.Runs.{DecodedFrom}
 use Rattle.runner.proofs.States.{none-decoded, one-decoded}

@@ -1,6 +1,5 @@
 -- The edge is impossible, or its first lost line tells. Assumes nothing.
 use mathlib.Core.Path.{sym, _∙_}
-use borrow.Author.Needs.{needs}
 use Rattle.domain.proofs.Points.{edge-sized, known-laid}
 use Rattle.checker.proofs.Edges.{edge-kept, edge-refused, edge-impossible}
 use Rattle.checker.proofs.lost.edge_judged.Statement.{statement}

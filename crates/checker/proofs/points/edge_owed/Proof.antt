@@ -1,5 +1,4 @@
 use native.Mathlib.Omega.{arith}
-use borrow.Author.Needs.{needs}
 use Rattle.checker.proofs.points.edge_owed.Statement.{statement}
 use Rattle.checker.proofs.points.edge_owed.Tie as tie
 

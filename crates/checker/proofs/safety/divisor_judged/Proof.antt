@@ -1,5 +1,4 @@
 -- The test chooses the judgement. Assumes nothing.
-use borrow.Author.Needs.{needs}
 use Rattle.checker.proofs.safety.divisor_judged.Statement.{statement}
 use Rattle.checker.proofs.safety.divisor_judged.Tie as tie
 

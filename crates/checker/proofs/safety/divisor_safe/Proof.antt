@@ -1,5 +1,4 @@
 -- The low end of a variable, or the number itself. Assumes nothing.
-use mathlib.Core.Path.{sym}
 use native.Mathlib.Omega.{arith}
 use borrow.Author.Needs.{needs}
 use Rattle.domain.proofs.Held.{low-held}

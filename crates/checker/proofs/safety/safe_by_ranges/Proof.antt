@@ -1,5 +1,4 @@
 -- A scale of one byte times an end of 32 bits stays within 64 bits. Assumes nothing.
-use mathlib.Core.Path.{_∙_}
 use native.Mathlib.Nat.{mul-le-mul}
 use native.Mathlib.Omega.{arith}
 use borrow.Author.Needs.{needs}

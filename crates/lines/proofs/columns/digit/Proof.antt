@@ -1,5 +1,4 @@
 -- Only a digit's byte is reduced, so the difference does not wrap. Assumes nothing.
-use borrow.Author.Needs.{needs}
 use native.Mathlib.Omega.{arith}
 use Rattle.model.specs.Text.{digitOf}
 use Rattle.lines.proofs.Digits.{digit-byte}

@@ -1,5 +1,4 @@
 -- Four spaces are a blank field. Assumes nothing.
-use native.Mathlib.Omega.{arith}
 use mathlib.Core.Path.{sym, _∙_}
 use mathlib.Core.Bool.{false≢true}
 use Rattle.lines.proofs.Shapes.{blank-four}

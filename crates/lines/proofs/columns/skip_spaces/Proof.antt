@@ -1,9 +1,8 @@
 -- The loop's invariant: the columns passed are spaces. Assumes nothing.
-use Prim.Native.Nat.{_≤_, _<_, _-_}
+use Prim.Native.Nat.{_≤_, _-_}
 use native.Mathlib.Omega.{arith}
 use mathlib.Core.Path.{_≡_, refl}
 use borrow.Author.Tests.{ne-eqb}
-use borrow.Author.Needs.{needs}
 use Rattle.model.specs.declared.text.Shape.the-variants.{Spaces}
 use Rattle.model.specs.Text.{shapeOf, digitsOf}
 use Rattle.lines.proofs.Shapes.{space-more}

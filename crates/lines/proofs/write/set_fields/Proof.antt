@@ -1,10 +1,10 @@
 use Prim.Native.Nat.{_≤_, _-_}
 use native.Mathlib.Omega.{arith}
 use native.Mathlib.Numerals.{add-one}
-use mathlib.Core.Path.{_≡_, refl, sym, ap, _∙_}
+use mathlib.Core.Path.{_≡_, refl, ap, _∙_}
 use lib.ListN.{length}
 use borrow.Author.Needs.{needs}
-use Rattle.model.specs.Lines.{fieldsSet, widthOf}
+use Rattle.model.specs.Lines.{fieldsSet}
 use Rattle.lines.proofs.Setting.{width-fits}
 use Rattle.lines.proofs.write.set_fields.Statement.{statement}
 use Rattle.lines.proofs.write.set_fields.Tie as tie

@@ -1,4 +1,4 @@
-use borrow.Author.Tests.{eq-eqb, ne-eqb}
+use borrow.Author.Tests.{ne-eqb}
 use borrow.Author.Needs.{needs}
 use Rattle.lines.proofs.write.shape_for.Statement.{statement}
 use Rattle.lines.proofs.write.shape_for.Tie as tie
