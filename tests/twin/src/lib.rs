@@ -4,7 +4,6 @@
 mod facts;
 mod follow;
 mod read;
-mod refusals;
 mod run;
 mod walk;
 

@@ -1,11 +1,11 @@
 //! Lines to points, refusals 1 to 11, in one pass.
 
 use crate::facts::Facts;
-use crate::refusals::{
+use crate::Answer;
+use reference::refusals::{
     BAD_BYTE, BAD_LENGTH, BAD_ORDER, BAD_SHAPE, EMPTY_START, ENDS_IN_CLAIM, NO_SUCH_TARGET, OUT_OF_LIMITS,
     RUNS_OFF_THE_END, TOO_MANY_POINTS, UNKNOWN_WORD,
 };
-use crate::Answer;
 
 pub const LINE: usize = 40;
 pub const MAX: u64 = u32::MAX as u64;

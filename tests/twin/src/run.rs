@@ -3,8 +3,8 @@
 
 use crate::facts::{Facts, Stripe, VARIABLES};
 use crate::read::{claim_lines, Instruction, Operand, Point, Points, SIZE_LIMIT};
-use crate::refusals::{CLAIMS_NOT_MET, NO_SUCH_POINT, TABLE_TOO_LONG};
 use crate::{checked, Answer};
+use reference::refusals::{CLAIMS_NOT_MET, NO_SUCH_POINT, TABLE_TOO_LONG};
 
 const REGISTERS: usize = 16;
 const TRAYS_SIZE: usize = 16;

@@ -3,8 +3,8 @@
 use crate::facts::{claim, Claim, Facts, Stripe, BLANK};
 use crate::follow::{follows, Links};
 use crate::read::{claim_lines, Instruction, Operand, Point};
-use crate::refusals::{ACCESS_MAY_LEAVE, CLAIM_DOES_NOT_FOLLOW, DIVISOR_MAY_BE_ZERO};
 use crate::Answer;
+use reference::refusals::{ACCESS_MAY_LEAVE, CLAIM_DOES_NOT_FOLLOW, DIVISOR_MAY_BE_ZERO};
 
 const RESULTS_SIZE: u8 = 17;
 
