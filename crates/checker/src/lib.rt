@@ -1,8 +1,8 @@
 // The checker: what each point owes, its answer, and the printed line.
-pub mod lost;
+mod lost;
 pub mod output;
-pub mod points;
-pub mod safety;
+mod points;
+mod safety;
 
 use crate::output::printed;
 use crate::points::points_judged;
