@@ -43,7 +43,7 @@ fn check_in(listing: &[u8], rows: &mut [u64]) -> Verdict
     requires { ⌜ (length (now listing) ≤ greatestListing → length (now listing) / lineBytes * 8 ≤ length (now rows)) ⌝ }
     ensures { λ r. ⌜ r ≡ Check.check (now (listing .entry)) ⌝ }
 {
-    let mut at = [0u16; 1028];
+    let mut at = [0u16; 1026];
     let l = judged_listing(listing, rows, &mut at);
     let j = l.judgement;
     match j {

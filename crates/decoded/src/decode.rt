@@ -15,6 +15,7 @@ use crate::kinds::STOR;
 use crate::kinds::STRP;
 use crate::kinds::SUBW;
 use crate::rows::Row;
+use crate::rows::number_at;
 use crate::rows::row_at;
 use model::answers::Refusal;
 use model::claims::Claim;
@@ -29,10 +30,10 @@ ghost use Prim.Native.Nat.{_+_, _*_, _%_, _≤_};
 ghost use lib.ListN.{length};
 ghost use Rattle.model.specs.Lines.{widthFrom, tableFrom};
 ghost use Rattle.decoded.specs.Rows.{rowAt};
-ghost use Rattle.decoded.specs.Decoded.{operandIn, branchFrom, accessFrom, arithmeticFrom, instructionFrom, stripeFrom, lineFrom};
+ghost use Rattle.decoded.specs.Decoded.{operandIn, operandOf, branchFrom, accessFrom, arithmeticFrom, instructionFrom, stripeFrom, lineFrom};
 
 // The low 32 bits: every number that a register can hold is kept whole.
-fn word(n: u64) -> u32
+pub fn word(n: u64) -> u32
     ensures { λ r. ⌜ r ≡ n % 4294967296 ⌝ }
 {
     (n % 4294967296) as u32
@@ -45,7 +46,8 @@ fn byte(n: u64) -> u8
     (n % 256) as u8
 }
 
-fn width_from(n: u64) -> Width
+// The width of so many bytes.
+pub fn width_from(n: u64) -> Width
     ensures { λ r. ⌜ r ≡ widthFrom n ⌝ }
 {
     if n == 1 {
@@ -57,7 +59,8 @@ fn width_from(n: u64) -> Width
     Width::Four
 }
 
-fn table_from(n: u64) -> Table
+// The table of a number.
+pub fn table_from(n: u64) -> Table
     ensures { λ r. ⌜ r ≡ tableFrom n ⌝ }
 {
     if n == 0 {
@@ -76,18 +79,26 @@ fn operand_in(chosen: u64, n: u64) -> Operand
     Operand::Number(word(n))
 }
 
+// The operand that the k-th row holds.
+pub fn operand_at(rows: &[u64], k: usize) -> Operand
+    requires { ⌜ k * 8 + 8 ≤ length (now rows) ⌝ }
+    ensures { λ r. ⌜ r ≡ operandOf (rowAt (now (rows .entry)) k) ⌝ }
+{
+    operand_in(number_at(rows, k, 5), number_at(rows, k, 6))
+}
+
 // The instruction of a row, from JUMP on.
 fn branch_from(r: Row) -> Instruction
     ensures { λ x. ⌜ x ≡ branchFrom r ⌝ }
 {
     if r.kind == JUMP {
         return Instruction::Jump {
-            t: r.first as usize,
+            t: r.fourth as usize,
         };
     }
-    let i = r.first as usize;
-    let t = r.second as usize;
-    let o = operand_in(r.third, r.fourth);
+    let i = r.second as usize;
+    let t = r.fourth as usize;
+    let o = operand_in(r.fifth, r.sixth);
     if r.kind == BLTU {
         return Instruction::Bltu { i, t, o };
     }
@@ -132,7 +143,7 @@ fn arithmetic_from(r: Row) -> Instruction
 {
     let d = r.first as usize;
     let i = r.second as usize;
-    let o = operand_in(r.third, r.fourth);
+    let o = operand_in(r.fifth, r.sixth);
     if r.kind == ADDW {
         return Instruction::Addw { d, i, o };
     }
@@ -149,7 +160,7 @@ fn arithmetic_from(r: Row) -> Instruction
 }
 
 // The instruction of a row.
-pub fn instruction_from(r: Row) -> Instruction
+fn instruction_from(r: Row) -> Instruction
     ensures { λ x. ⌜ x ≡ instructionFrom r ⌝ }
 {
     if r.kind == STOP {
@@ -158,7 +169,7 @@ pub fn instruction_from(r: Row) -> Instruction
     if r.kind == SETC {
         return Instruction::Setc {
             d: r.first as usize,
-            c: word(r.second),
+            c: word(r.sixth),
         };
     }
     if r.kind == COPY {
@@ -179,8 +190,8 @@ fn stripe_from(r: Row) -> Stripe
         a: byte(r.second),
         y: byte(r.third),
         z: byte(r.fourth),
-        plus: r.fifth,
-        minus: r.sixth,
+        plus: r.sixth,
+        minus: r.seventh,
     }
 }
 
@@ -194,13 +205,13 @@ pub fn line_from(r: Row) -> Line
     if r.kind == LEAS {
         return Line::Claim(Claim::Leas {
             v: r.first as usize,
-            least: r.second,
+            least: r.sixth,
         });
     }
     if r.kind == MOST {
         return Line::Claim(Claim::Most {
             v: r.first as usize,
-            most: r.second,
+            most: r.sixth,
         });
     }
     if r.kind == REFUSED {

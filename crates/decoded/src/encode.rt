@@ -16,172 +16,109 @@ use crate::kinds::STOR;
 use crate::kinds::STRP;
 use crate::kinds::SUBW;
 use crate::rows::Row;
-use crate::rows::write_row;
-use model::claims::Claim;
-use model::claims::Line;
-use model::machine::Instruction;
-use model::machine::Operand;
-use model::machine::Table;
-use model::machine::Width;
+use lines::fields::value;
+use model::text::Field;
+use model::text::Word;
 ghost use mathlib.Core.Path.{_≡_};
-ghost use Prim.Native.Nat.{_+_, _*_, _≤_};
-ghost use lib.ListN.{length};
-ghost use Rattle.model.specs.Machine.{bytesOf};
-ghost use Rattle.decoded.specs.Rows.{numbers, withRow};
-ghost use Rattle.decoded.specs.Encoded.{choiceOf, numberIn, tableNumber, arithmeticRow, branchRow, instructionRow, claimRow, rowOf};
+ghost use Rattle.model.specs.Lines.{variableOrBlank, plusIn, minusIn};
+ghost use Rattle.decoded.specs.Encoded.{kindOf, rowOf, refusedRow};
 
-// A row of the numbers given.
-fn numbers_of(kind: u64, first: u64, second: u64, third: u64, fourth: u64) -> Row
-    ensures { λ r. ⌜ r ≡ numbers kind first second third fourth 0 0 ⌝ }
-{
-    Row {
-        kind,
-        first,
-        second,
-        third,
-        fourth,
-        fifth: 0,
-        sixth: 0,
-    }
-}
+// Stands for a blank z: one past the last variable.
+const BLANK_VARIABLE: u64 = 18;
 
-// 0 for a variable, 1 for a number.
-fn choice(o: Operand) -> u64
-    ensures { λ r. ⌜ r ≡ choiceOf o ⌝ }
-{
-    match o {
-        Operand::Variable(_) => 0,
-        Operand::Number(_) => 1,
-    }
-}
-
-// The variable or the number.
-fn number_in(o: Operand) -> u64
-    ensures { λ r. ⌜ r ≡ numberIn o ⌝ }
-{
-    match o {
-        Operand::Variable(v) => v as u64,
-        Operand::Number(n) => n as u64,
-    }
-}
-
-fn bytes(w: Width) -> u64
-    ensures { λ r. ⌜ r ≡ bytesOf w ⌝ }
+// The kind of row that a word has.
+fn kind_of(w: Word) -> u64
+    ensures { λ r. ⌜ r ≡ kindOf w ⌝ }
 {
     match w {
-        Width::One => 1,
-        Width::Two => 2,
-        Width::Four => 4,
+        Word::Stop => STOP,
+        Word::Setc => SETC,
+        Word::Copy => COPY,
+        Word::Addw => ADDW,
+        Word::Subw => SUBW,
+        Word::Mulw => MULW,
+        Word::Divf => DIVF,
+        Word::Load => LOAD,
+        Word::Stor => STOR,
+        Word::Jump => JUMP,
+        Word::Bltu => BLTU,
+        Word::Bequ => BEQU,
+        Word::Leas => LEAS,
+        Word::Most => MOST,
+        Word::Strp => STRP,
     }
 }
 
-fn table_number(b: Table) -> u64
-    ensures { λ r. ⌜ r ≡ tableNumber b ⌝ }
+// The variable z.
+fn variable_or_blank(f: Field) -> u64
+    ensures { λ r. ⌜ r ≡ variableOrBlank f ⌝ }
 {
-    match b {
-        Table::Trays => 0,
-        Table::Results => 1,
+    match f {
+        Field::Blank => BLANK_VARIABLE,
+        Field::Number(v) => v,
+        Field::Negative(v) => v,
+        Field::Misshapen => BLANK_VARIABLE,
     }
 }
 
-// The row of an instruction that writes d from i and an operand.
-fn arithmetic_row(kind: u64, d: usize, i: usize, o: Operand) -> Row
-    ensures { λ r. ⌜ r ≡ arithmeticRow kind d i o ⌝ }
+// What a bound adds.
+fn plus_in(f: Field) -> u64
+    ensures { λ r. ⌜ r ≡ plusIn f ⌝ }
 {
-    numbers_of(kind, d as u64, i as u64, choice(o), number_in(o))
-}
-
-// The row of a branch.
-fn branch_row(kind: u64, i: usize, t: usize, o: Operand) -> Row
-    ensures { λ r. ⌜ r ≡ branchRow kind i t o ⌝ }
-{
-    numbers_of(kind, i as u64, t as u64, choice(o), number_in(o))
-}
-
-// The row of an instruction.
-fn instruction_row(i: Instruction) -> Row
-    ensures { λ r. ⌜ r ≡ instructionRow i ⌝ }
-{
-    match i {
-        Instruction::Stop => numbers_of(STOP, 0, 0, 0, 0),
-        Instruction::Setc { d, c } => numbers_of(SETC, d as u64, c as u64, 0, 0),
-        Instruction::Copy { d, i } => numbers_of(COPY, d as u64, i as u64, 0, 0),
-        Instruction::Addw { d, i, o } => arithmetic_row(ADDW, d, i, o),
-        Instruction::Subw { d, i, o } => arithmetic_row(SUBW, d, i, o),
-        Instruction::Mulw { d, i, o } => arithmetic_row(MULW, d, i, o),
-        Instruction::Divf { d, i, o } => arithmetic_row(DIVF, d, i, o),
-        Instruction::Load {
-            d,
-            w,
-            table,
-            a,
-            i,
-            k,
-        } => Row {
-            kind: LOAD,
-            first: d as u64,
-            second: bytes(w),
-            third: table_number(table),
-            fourth: a as u64,
-            fifth: i as u64,
-            sixth: k as u64,
-        },
-        Instruction::Stor { v, w, a, i, k } => Row {
-            kind: STOR,
-            first: v as u64,
-            second: bytes(w),
-            third: 0,
-            fourth: a as u64,
-            fifth: i as u64,
-            sixth: k as u64,
-        },
-        Instruction::Jump { t } => numbers_of(JUMP, t as u64, 0, 0, 0),
-        Instruction::Bltu { i, t, o } => branch_row(BLTU, i, t, o),
-        Instruction::Bequ { i, t, o } => branch_row(BEQU, i, t, o),
+    match f {
+        Field::Blank => 0,
+        Field::Number(v) => v,
+        Field::Negative(_) => 0,
+        Field::Misshapen => 0,
     }
 }
 
-// A byte as a number.
-fn wide(x: u8) -> u64
-    ensures { λ r. ⌜ r ≡ x ⌝ }
+// What a bound takes away.
+fn minus_in(f: Field) -> u64
+    ensures { λ r. ⌜ r ≡ minusIn f ⌝ }
 {
-    x as u64
-}
-
-// The row of a claim.
-fn claim_row(c: Claim) -> Row
-    ensures { λ r. ⌜ r ≡ claimRow c ⌝ }
-{
-    match c {
-        Claim::Leas { v, least } => numbers_of(LEAS, v as u64, least, 0, 0),
-        Claim::Most { v, most } => numbers_of(MOST, v as u64, most, 0, 0),
-        Claim::Strp(s) => Row {
-            kind: STRP,
-            first: wide(s.x),
-            second: wide(s.a),
-            third: wide(s.y),
-            fourth: wide(s.z),
-            fifth: s.plus,
-            sixth: s.minus,
-        },
+    match f {
+        Field::Blank => 0,
+        Field::Number(_) => 0,
+        Field::Negative(v) => v,
+        Field::Misshapen => 0,
     }
 }
 
-// The row of a line; what turned a line back is not kept.
-pub fn row_of(l: Line) -> Row
-    ensures { λ r. ⌜ r ≡ rowOf l ⌝ }
+// The row of a word whose fields are accepted.
+pub fn row_of(w: Word, fs: [Field; 6]) -> Row
+    ensures { λ r. ⌜ r ≡ rowOf w fs ⌝ }
 {
-    match l {
-        Line::Refused(_) => numbers_of(REFUSED, 0, 0, 0, 0),
-        Line::Claim(c) => claim_row(c),
-        Line::Instruction(i) => instruction_row(i),
+    let f1 = fs[0];
+    let f2 = fs[1];
+    let f3 = fs[2];
+    let f4 = fs[3];
+    let f5 = fs[4];
+    let f6 = fs[5];
+    Row {
+        kind: kind_of(w),
+        first: value(f1),
+        second: value(f2),
+        third: value(f3),
+        fourth: variable_or_blank(f4),
+        fifth: value(f5),
+        sixth: plus_in(f6),
+        seventh: minus_in(f6),
     }
 }
 
-// Keeps a line as the k-th row.
-pub fn keep_line(rows: &mut [u64], k: usize, l: Line)
-    requires { ⌜ k * 8 + 8 ≤ length (now rows) ⌝ }
-    ensures { λ _. ⌜ now (rows .exit) ≡ withRow (now (rows .entry)) k (rowOf l) ⌝ }
+// The row of a line that is turned back.
+pub fn refused_row() -> Row
+    ensures { λ r. ⌜ r ≡ refusedRow ⌝ }
 {
-    write_row(rows, k, row_of(l));
+    Row {
+        kind: REFUSED,
+        first: 0,
+        second: 0,
+        third: 0,
+        fourth: 0,
+        fifth: 0,
+        sixth: 0,
+        seventh: 0,
+    }
 }

@@ -7,13 +7,12 @@ use model::text::Field;
 use model::text::FoundWord;
 use model::text::Word;
 ghost use mathlib.Core.Path.{_≡_};
-ghost use Prim.Native.Nat.{_<_};
 ghost use Rattle.model.specs.declared.text.FoundWord.the-variants.{Known};
 ghost use Rattle.model.specs.Text.{valueIn};
-ghost use Rattle.model.specs.Lines.{fieldAt, judged};
+ghost use Rattle.model.specs.Lines.{judged};
 
 // The number of a field without its minus; 0 where there is none.
-pub(crate) fn value(f: Field) -> u64
+pub fn value(f: Field) -> u64
     ensures { λ r. ⌜ r ≡ valueIn f ⌝ }
 {
     match f {
@@ -22,15 +21,6 @@ pub(crate) fn value(f: Field) -> u64
         Field::Negative(v) => v,
         Field::Misshapen => 0,
     }
-}
-
-// The number of field j, counted from 0.
-pub(crate) fn value_at(fs: [Field; 6], j: usize) -> u64
-    requires { ⌜ j < 6 ⌝ }
-    ensures { λ r. ⌜ r ≡ valueIn (fieldAt fs j) ⌝ }
-{
-    let f = fs[j];
-    value(f)
 }
 
 // Refusals 3, 4 and 5 of a word with its fields, in this order.

@@ -1,11 +1,9 @@
-// The lines of a listing: 40 bytes read as a word and six fields, judged, and read as an instruction or a claim.
-mod claims;
+// The lines of a listing: 40 bytes read as a word and six fields, and judged; and lines written.
 mod columns;
-mod fields;
+pub mod fields;
 mod fours;
-mod instructions;
 mod kinds;
 pub mod line;
 mod rows;
-mod words;
+pub mod words;
 pub mod write;

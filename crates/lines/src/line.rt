@@ -1,25 +1,13 @@
-// A line of 40 bytes.
-use crate::claims;
+// A line of 40 bytes: its spelling and its six fields.
 use crate::columns::read_field;
 use crate::columns::width;
-use crate::fields::judge;
-use crate::instructions;
-use crate::words::find_word;
-use model::answers::Judgement;
-use model::answers::Refusal;
-use model::claims::Line;
-use model::machine::Instruction;
 use model::text::Field;
-use model::text::FoundWord;
-use model::text::Word;
 ghost use mathlib.Core.Path.{_≡_};
-ghost use mathlib.Core.Bool.{true};
 ghost use Prim.Native.Nat.{ℕ, _<_};
 ghost use lib.ListN.{length, getD};
-ghost use Rattle.model.specs.declared.text.FoundWord.the-variants.{Known};
 ghost use Rattle.model.specs.Lists.{everyBelow};
 ghost use Rattle.model.specs.Text.{fieldOf};
-ghost use Rattle.model.specs.Lines.{printable, wellSpelled, columnOf, widthOf, fieldsIn, inLimits, judged, lineFrom, lineOr, lineFound, readLine};
+ghost use Rattle.model.specs.Lines.{printable, wellSpelled, columnOf, widthOf, fieldsIn};
 
 // A byte that may stand in columns 1 to 39: counted from the space on, one comparison tells both limits.
 fn is_printable(b: u8) -> bool
@@ -43,7 +31,7 @@ fn all_printable(l: &[u8]) -> bool
 }
 
 // Columns 1 to 39 are printable and column 40 ends the line.
-fn is_well_spelled(l: &[u8]) -> bool
+pub fn is_well_spelled(l: &[u8]) -> bool
     requires { ⌜ length (now l) ≡ 40 ⌝ }
     ensures { λ r. ⌜ r ≡ wellSpelled (now (l .entry)) ⌝ }
 {
@@ -60,7 +48,7 @@ fn read_at(l: &[u8], j: usize) -> Field
 }
 
 // The six fields of a line.
-fn read_fields(l: &[u8]) -> [Field; 6]
+pub fn read_fields(l: &[u8]) -> [Field; 6]
     requires { ⌜ length (now l) ≡ 40 ⌝ }
     ensures { λ r. ⌜ r ≡ fieldsIn (now (l .entry)) ⌝ }
 {
@@ -71,61 +59,4 @@ fn read_fields(l: &[u8]) -> [Field; 6]
     let f5 = read_at(l, 4);
     let f6 = read_at(l, 5);
     [f1, f2, f3, f4, f5, f6]
-}
-
-// The line of a word whose fields are accepted.
-fn line_from(w: Word, fs: [Field; 6]) -> Line
-    requires { ⌜ inLimits w fs ≡ true ⌝ }
-    ensures { λ r. ⌜ r ≡ lineFrom w fs ⌝ }
-{
-    match w {
-        Word::Stop => Line::Instruction(Instruction::Stop),
-        Word::Setc => instructions::setc(fs),
-        Word::Copy => instructions::copy(fs),
-        Word::Addw => instructions::addw(fs),
-        Word::Subw => instructions::subw(fs),
-        Word::Mulw => instructions::mulw(fs),
-        Word::Divf => instructions::divf(fs),
-        Word::Load => instructions::load(fs),
-        Word::Stor => instructions::stor(fs),
-        Word::Jump => instructions::jump(fs),
-        Word::Bltu => instructions::bltu(fs),
-        Word::Bequ => instructions::bequ(fs),
-        Word::Leas => claims::leas(fs),
-        Word::Most => claims::most(fs),
-        Word::Strp => claims::strp(fs),
-    }
-}
-
-// The line of a word with its fields, or what turns them back.
-fn line_known(place: usize, w: Word, fs: [Field; 6]) -> Line
-    ensures { λ r. ⌜ r ≡ lineOr (judged place (Known w) fs) (lineFrom w fs) ⌝ }
-{
-    match judge(place, FoundWord::Known(w), fs) {
-        Judgement::Accepted => line_from(w, fs),
-        Judgement::Refused(r) => Line::Refused(r),
-    }
-}
-
-// As above, or what turns a line without a known word back.
-fn line_found(place: usize, w: FoundWord, fs: [Field; 6]) -> Line
-    ensures { λ r. ⌜ r ≡ lineFound place w fs ⌝ }
-{
-    match w {
-        FoundWord::Unknown => Line::Refused(Refusal::UnknownWord { line: place }),
-        FoundWord::Known(word) => line_known(place, word, fs),
-    }
-}
-
-// A line with its number: the claim or instruction that it holds, or what turns it back.
-pub fn read_line(place: usize, l: &[u8]) -> Line
-    requires { ⌜ length (now l) ≡ 40 ⌝ }
-    ensures { λ r. ⌜ r ≡ readLine place (now (l .entry)) ⌝ }
-{
-    if is_well_spelled(l) {
-        let w = find_word(l);
-        let fs = read_fields(l);
-        return line_found(place, w, fs);
-    }
-    Line::Refused(Refusal::LineBytes { line: place })
 }

@@ -5,3 +5,4 @@ pub mod Wholes
 pub mod Gathering
 pub mod Listings
 pub mod Parts
+pub mod Reading

@@ -19,7 +19,7 @@ use Rattle.model.specs.declared.claims.Line.the-variants.{Refused as refusedLin
 use Rattle.model.specs.declared.answers.Refusal.the-variants.{ClaimOrder}
 use Rattle.model.specs.Listing.{Point, firstLine, pointAt, stripesAmong, inOrder, mayFollowAll, Reading, going, turned, afterLine, readTo}
 use Rattle.model.proofs.Tests.{and-right, cond-cases}
-use Rattle.reader.specs.Scan.{lineRead, progressOf, afterScan, coded, noPoint, slotOf, pointFrom, tableTo, claimsIn, Within}
+use Rattle.reader.specs.Scan.{lineRead, sortOf, progressOf, afterScan, coded, noPoint, slotOf, pointFrom, tableTo, claimsIn, Within}
 use Rattle.reader.specs.declared.scan.Point as code
 use Rattle.reader.proofs.Scanning.{stripes-cons, stripes-snoc, after-same}
 
@@ -58,12 +58,12 @@ pub table-next : (s : List ℕ) (n : ℕ) → tableTo s (suc n) ≡ set (tableTo
 unfolding tableTo
 table-next s n = refl
 
-pub progress-next : (s : List ℕ) (n : ℕ) → progressOf (readTo s (suc n)) ≡ afterScan (progressOf (readTo s n)) n (lineRead s n)
+pub progress-next : (s : List ℕ) (n : ℕ) → progressOf (readTo s (suc n)) ≡ afterScan (progressOf (readTo s n)) n (sortOf (lineRead s n))
 unfolding readTo
 progress-next s n = after-same (readTo s n) n (lineRead s n)
 
--- a line that is no instruction goes to the last place
-table-aside : (s : List ℕ) (n : ℕ) → slotOf (progressOf (readTo s n)) (lineRead s n) ≡ 513 → (i : ℕ) → i ≤ 512 → getD (tableTo s (suc n)) i noPoint ≡ getD (tableTo s n) i noPoint
+-- a line that is no point goes to the last place
+pub table-aside : (s : List ℕ) (n : ℕ) → slotOf (progressOf (readTo s n)) (lineRead s n) ≡ 513 → (i : ℕ) → i ≤ 512 → getD (tableTo s (suc n)) i noPoint ≡ getD (tableTo s n) i noPoint
 unfolding tableTo
 table-aside s n e i h = rw e (getD-set-other (tableTo s n) 513 i _ noPoint (λ q. omega arith))
 

@@ -1,18 +1,23 @@
 -- The tests over the table of points are the model's over the points. Assumes nothing.
 use mathlib.Core.Path.{_≡_, refl, sym, ap, _∙_}
+use mathlib.Core.Bool.{true, false, _&&_, false≢true}
 use mathlib.Core.List.{List, [], _∷_, _++_}
 use Prim.Native.Nat.{ℕ, zero, suc, _-_, _≤_, _<_}
 use native.Mathlib.Omega.{arith}
 use native.Mathlib.Decide.{decLe}
 use lib.ListN.{length, take}
 use lib.Seq.{take-suc, take-length}
-use lib.Dec.{eqb·suc-zero}
-use borrow.Author.Tests.{le-leb, lt-leb, le-ltb, lt-ltb}
+use lib.Dec.{leb, ltb, eqb·suc-zero}
+use borrow.Author.Tests.{le-leb, lt-leb, le-ltb, lt-ltb, leb-true, ltb-true}
 use Rattle.model.specs.declared.claims.Claim.{Claim}
 use Rattle.model.specs.declared.answers.Judgement.{Judgement}
 use Rattle.model.specs.declared.answers.Judgement.the-variants.{Accepted, Refused as refused}
 use Rattle.model.specs.Answers.{_andThen_}
 use Rattle.model.specs.Listing.{Point, pointAt, targets, targetsExist, allTargetsExist, endsInPlace, startsNonEmpty, wholeJudged}
+use Rattle.model.proofs.Tests.{and-left, and-right, and-both}
+use Rattle.decoded.specs.declared.rows.Row.{Row}
+use Rattle.decoded.specs.Decoded.{instructionFrom}
+use Rattle.decoded.proofs.ByKind.{no-target, own-target}
 use Rattle.reader.specs.Scan.{scanOf, tableTo}
 use Rattle.reader.specs.Whole.{tableAt, targetsTo, lastJudged, pointsJudged}
 use Rattle.reader.proofs.Tables.{LinesRead, noModelPoint}
@@ -60,3 +65,14 @@ whole-same s lines ps [] h one = go (decLe (length ps) 512)
     go (no many) =
         let more : 512 < length ps = omega arith in
         rw (lt-ltb 512 (length ps) more, lt-leb _ _ more, h .table 512 more (omega arith))
+
+-- the targets of a row, by its kind
+module _ (n line : ℕ) (r : Row) where
+  pub names-none : (leb 1 (r .kind) && ltb (r .kind) 10) ≡ true → Accepted ≡ targetsExist n line (targets (instructionFrom r))
+  names-none e =
+      let low = leb-true 1 (r .kind) (and-left (leb 1 (r .kind)) (ltb (r .kind) 10) e) in
+      let high = ltb-true (r .kind) 10 (and-right (leb 1 (r .kind)) (ltb (r .kind) 10) e) in
+      sym (ap (targetsExist n line) (no-target r low high))
+
+  pub names-own : (leb 1 (r .kind) && ltb (r .kind) 10) ≡ false → targetsExist n line (r .fourth ∷ []) ≡ targetsExist n line (targets (instructionFrom r))
+  names-own e = sym (ap (targetsExist n line) (own-target r (λ low high. false≢true (sym e ∙ and-both (leb 1 (r .kind)) (ltb (r .kind) 10) (le-leb 1 (r .kind) low) (lt-ltb (r .kind) 10 high)))))

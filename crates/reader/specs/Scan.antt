@@ -1,11 +1,13 @@
--- How the code keeps what the model reads: counts and the last claim in place of lists, and a table of points.
+-- How the code keeps what the model reads: counts and the order of the last claim in place of lists, and a table of points.
 -- The table has 514 places: one for each of 512 points, one for the 513th, whose line refusal 8 names, and one that takes every other line.
 use Prim.Native.Nat.{ℕ, zero, suc, _+_, _≤_}
-use mathlib.Core.Bool.{Bool, true, false, cond}
+use mathlib.Core.Bool.{Bool, true, false, _&&_, _||_, cond}
 use mathlib.Core.List.{List, [], _∷_, _++_}
 use lib.ListN.{length, set, replicate}
 use lib.Dec.{leb, ltb, eqb}
 use Rattle.model.specs.declared.machine.Instruction.the-variants.{Stop}
+use Rattle.model.specs.declared.text.Word.{Word}
+use Rattle.model.specs.declared.text.Word.the-variants.{Stop as STOP, Setc as SETC, Copy as COPY, Addw as ADDW, Subw as SUBW, Mulw as MULW, Divf as DIVF, Load as LOAD, Stor as STOR, Jump as JUMP, Bltu as BLTU, Bequ as BEQU, Leas as LEAS, Most as MOST, Strp as STRP}
 use Rattle.model.specs.declared.claims.Claim.{Claim}
 use Rattle.model.specs.declared.claims.Claim.the-variants.{Leas, Most, Strp}
 use Rattle.model.specs.declared.claims.Line.{Line}
@@ -13,28 +15,69 @@ use Rattle.model.specs.declared.claims.Line.the-variants.{Refused as refusedLin
 use Rattle.model.specs.declared.answers.Refusal.the-variants.{ClaimOrder}
 use Rattle.model.specs.Limits.{greatestStripes}
 use Rattle.model.specs.Lines.{readLine}
-use Rattle.model.specs.Listing.{lineAt, mayFollow, stripesAmong, Reading, going, turned, readTo}
+use Rattle.model.specs.Listing.{lineAt, stripesAmong, Reading, going, turned, readTo}
 use Rattle.model.specs.Listing as model
 use Rattle.reader.specs.declared.scan.Point.{Point}
+use Rattle.reader.specs.declared.scan.Order.{Order}
+use Rattle.reader.specs.declared.scan.Sort.{Sort}
+use Rattle.reader.specs.declared.scan.Sort.the-variants.{Refused as refusedSort, Leas as leasSort, Most as mostSort, Strp as strpSort, Instruction as instructionSort}
 use Rattle.reader.specs.declared.scan.Scan.{Scan}
 use Rattle.reader.specs.declared.scan.Progress.{Progress}
 use Rattle.reader.specs.declared.scan.Progress.the-variants.{Going, Turned}
 
--- stands where no claim has been read
-abbrev pub noClaim : Claim
-noClaim = Leas 0 0
+-- an order from its parts
+abbrev pub order : ℕ → ℕ → Order
+order rank v = record { rank = rank; variable = v }
 
--- the last of some claims
-abbrev pub lastOf : List Claim → Claim
-lastOf [] = noClaim
-lastOf (c ∷ []) = c
+-- what decides where a claim may stand
+abbrev pub orderOf : Claim → Order
+orderOf (Leas v n) = order 0 v
+orderOf (Most v n) = order 1 v
+orderOf (Strp s) = order 2 0
+
+-- stands where no claim has been read
+abbrev pub noOrder : Order
+noOrder = order 0 0
+
+-- the order of the last of some claims
+abbrev pub lastOf : List Claim → Order
+lastOf [] = noOrder
+lastOf (c ∷ []) = orderOf c
 lastOf (a ∷ (b ∷ bs)) = lastOf (b ∷ bs)
 
+-- a claim may stand right after another
+abbrev pub mayStand : Order → Order → Bool
+mayStand b c = ltb (b .rank) (c .rank) || (eqb (b .rank) (c .rank) && (eqb (c .rank) 2 || ltb (b .variable) (c .variable)))
+
 -- 1 for a stripe, 0 for any other claim
-abbrev pub stripesIn : Claim → ℕ
-stripesIn (Leas v n) = 0
-stripesIn (Most v n) = 0
-stripesIn (Strp s) = 1
+abbrev pub stripesOf : Order → ℕ
+stripesOf c = cond (eqb (c .rank) 2) 1 0
+
+-- what the order of the lines depends on
+abbrev pub sortOf : Line → Sort
+sortOf (refusedLine r) = refusedSort r
+sortOf (claimLine (Leas v n)) = leasSort v
+sortOf (claimLine (Most v n)) = mostSort v
+sortOf (claimLine (Strp s)) = strpSort
+sortOf (instructionLine i) = instructionSort
+
+-- the same of a word whose F1 is the variable v
+abbrev pub sortFrom : Word → ℕ → Sort
+sortFrom STOP v = instructionSort
+sortFrom SETC v = instructionSort
+sortFrom COPY v = instructionSort
+sortFrom ADDW v = instructionSort
+sortFrom SUBW v = instructionSort
+sortFrom MULW v = instructionSort
+sortFrom DIVF v = instructionSort
+sortFrom LOAD v = instructionSort
+sortFrom STOR v = instructionSort
+sortFrom JUMP v = instructionSort
+sortFrom BLTU v = instructionSort
+sortFrom BEQU v = instructionSort
+sortFrom LEAS v = leasSort v
+sortFrom MOST v = mostSort v
+sortFrom STRP v = strpSort
 
 -- what the code keeps of points and claims
 abbrev pub scanOf : List model.Point → List Claim → Scan
@@ -45,20 +88,22 @@ progressOf (going ps cs) = Going (scanOf ps cs)
 progressOf (turned r) = Turned r
 
 -- the claim stands in order after those read
-abbrev pub inOrderAfter : Scan → Claim → Bool
-inOrderAfter q c = cond (ltb greatestStripes (q .stripes + stripesIn c)) false (cond (eqb (q .claims) 0) true (mayFollow (q .last) c))
+abbrev pub inOrderAfter : Scan → Order → Bool
+inOrderAfter q c = cond (ltb greatestStripes (q .stripes + stripesOf c)) false (cond (eqb (q .claims) 0) true (mayStand (q .last) c))
 
-abbrev pub afterClaim : Scan → ℕ → Claim → Progress
+abbrev pub afterClaim : Scan → ℕ → Order → Progress
 afterClaim q k c =
-    cond (inOrderAfter q c) (Going (record { points = q .points; claims = q .claims + 1; stripes = q .stripes + stripesIn c; last = c }))
+    cond (inOrderAfter q c) (Going (record { points = q .points; claims = q .claims + 1; stripes = q .stripes + stripesOf c; last = c }))
     (Turned (ClaimOrder (k + 1)))
 
 -- after the k-th line, counted from 0
-abbrev pub afterScan : Progress → ℕ → Line → Progress
+abbrev pub afterScan : Progress → ℕ → Sort → Progress
 afterScan (Turned r) k l = Turned r
-afterScan (Going q) k (refusedLine r) = Turned r
-afterScan (Going q) k (claimLine c) = afterClaim q k c
-afterScan (Going q) k (instructionLine i) = Going (record { points = q .points + 1; claims = 0; stripes = 0; last = noClaim })
+afterScan (Going q) k (refusedSort r) = Turned r
+afterScan (Going q) k (leasSort v) = afterClaim q k (order 0 v)
+afterScan (Going q) k (mostSort v) = afterClaim q k (order 1 v)
+afterScan (Going q) k strpSort = afterClaim q k (order 2 0)
+afterScan (Going q) k instructionSort = Going (record { points = q .points + 1; claims = 0; stripes = 0; last = noOrder })
 
 -- the counts after k lines
 abbrev pub Within : Progress → ℕ → Type 0

@@ -26,7 +26,7 @@ pub fn claim_lines(listing: &[u8], point: usize) -> &[u8]
     ensures { λ r. ⌜ now r ≡ claimLines (now (listing .entry)) point ⌝ }
 {
     let mut rows = [0u64; 13104];
-    let mut at = [0u16; 1028];
+    let mut at = [0u16; 1026];
     let l = read_listing(listing, &mut rows, &mut at);
     let j = l.judgement;
     match j {

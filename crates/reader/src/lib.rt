@@ -3,6 +3,6 @@ pub mod claims;
 pub mod facts;
 pub mod kept;
 pub mod listing;
-mod read;
+pub mod read;
 pub mod scan;
 pub mod whole;

@@ -1,20 +1,129 @@
 // The lines of a listing, read in order: each is kept as a row of numbers, each point has its place.
-use crate::kept::place_point;
+use crate::kept::note;
 use crate::scan::Progress;
+use crate::scan::Sort;
 use crate::scan::after;
 use crate::scan::begin;
-use crate::scan::point_from;
-use crate::scan::slot;
-use decoded::encode::keep_line;
+use decoded::decode::line_from;
+use decoded::encode::refused_row;
+use decoded::encode::row_of;
+use decoded::rows::Row;
+use decoded::rows::write_row;
+use lines::fields::judge;
+use lines::line::is_well_spelled;
+use lines::line::read_fields;
+use lines::words::find_word;
+use model::answers::Judgement;
+use model::answers::Refusal;
+use model::claims::Line;
+use model::text::Field;
+use model::text::FoundWord;
+use model::text::Word;
 ghost use mathlib.Core.Path.{_≡_};
 ghost use Prim.Native.Nat.{_*_, _≤_};
 ghost use lib.ListN.{length};
+ghost use Rattle.model.specs.declared.text.FoundWord.the-variants.{Known};
+ghost use Rattle.model.specs.declared.claims.Line.the-variants.{Refused as refusedLine};
+ghost use Rattle.model.specs.Lines.{judged, lineFrom, lineOr, lineFound, readLine};
 ghost use Rattle.model.specs.Listing.{readTo};
-ghost use Rattle.reader.specs.Scan.{progressOf};
-ghost use Rattle.reader.specs.Kept.{Kept, Placed};
+ghost use Rattle.reader.specs.Scan.{progressOf, sortFrom};
+ghost use Rattle.reader.specs.Kept.{Kept, Placed, ReadAs};
+
+// What is read of a line: its row, and what the order of the lines depends on.
+pub struct Read {
+    pub row: Row,
+    pub sort: Sort,
+}
+
+// A line that is turned back.
+fn refused(r: Refusal) -> Read
+    ensures { λ x. ⌜ ReadAs (refusedLine r) x ⌝ }
+{
+    Read {
+        row: refused_row(),
+        sort: Sort::Refused(r),
+    }
+}
+
+// What the order of the lines depends on, for a word whose F1 is the variable v.
+fn sort_of(w: Word, v: u64) -> Sort
+    ensures { λ r. ⌜ r ≡ sortFrom w v ⌝ }
+{
+    match w {
+        Word::Stop => Sort::Instruction,
+        Word::Setc => Sort::Instruction,
+        Word::Copy => Sort::Instruction,
+        Word::Addw => Sort::Instruction,
+        Word::Subw => Sort::Instruction,
+        Word::Mulw => Sort::Instruction,
+        Word::Divf => Sort::Instruction,
+        Word::Load => Sort::Instruction,
+        Word::Stor => Sort::Instruction,
+        Word::Jump => Sort::Instruction,
+        Word::Bltu => Sort::Instruction,
+        Word::Bequ => Sort::Instruction,
+        Word::Leas => Sort::Leas(v),
+        Word::Most => Sort::Most(v),
+        Word::Strp => Sort::Strp,
+    }
+}
+
+// A line of a word with its fields, or what turns them back.
+fn read_known(place: usize, w: Word, fs: [Field; 6]) -> Read
+    ensures { λ x. ⌜ ReadAs (lineOr (judged place (Known w) fs) (lineFrom w fs)) x ⌝ }
+{
+    match judge(place, FoundWord::Known(w), fs) {
+        Judgement::Refused(r) => refused(r),
+        Judgement::Accepted => {
+            let row = row_of(w, fs);
+            let sort = sort_of(w, row.first);
+            Read { row, sort }
+        }
+    }
+}
+
+// As above, or what turns a line without a known word back.
+fn read_found(place: usize, w: FoundWord, fs: [Field; 6]) -> Read
+    ensures { λ x. ⌜ ReadAs (lineFound place w fs) x ⌝ }
+{
+    match w {
+        FoundWord::Unknown => refused(Refusal::UnknownWord { line: place }),
+        FoundWord::Known(word) => read_known(place, word, fs),
+    }
+}
+
+// A line with its number: what it holds, or what turns it back.
+fn read_bytes(place: usize, l: &[u8]) -> Read
+    requires { ⌜ length (now l) ≡ 40 ⌝ }
+    ensures { λ x. ⌜ ReadAs (readLine place (now (l .entry))) x ⌝ }
+{
+    if is_well_spelled(l) {
+        let w = find_word(l);
+        let fs = read_fields(l);
+        return read_found(place, w, fs);
+    }
+    refused(Refusal::LineBytes { line: place })
+}
+
+// A line by itself, with its number.
+pub fn read_line(place: usize, l: &[u8]) -> Line
+    requires { ⌜ length (now l) ≡ 40 ⌝ }
+    ensures { λ r. ⌜ r ≡ readLine place (now (l .entry)) ⌝ }
+{
+    let x = read_bytes(place, l);
+    let row = x.row;
+    let sort = x.sort;
+    match sort {
+        Sort::Refused(r) => Line::Refused(r),
+        Sort::Leas(_) => line_from(row),
+        Sort::Most(_) => line_from(row),
+        Sort::Strp => line_from(row),
+        Sort::Instruction => line_from(row),
+    }
+}
 
 // The first n lines: what was read, or the first refusal.
-pub fn read_lines(listing: &[u8], n: usize, rows: &mut [u64], at: &mut [u16]) -> Progress
+pub(crate) fn read_lines(listing: &[u8], n: usize, rows: &mut [u64], at: &mut [u16]) -> Progress
     requires { ⌜ (n ≤ 1638) × (n * 40 ≤ length (now listing)) ⌝ }
     requires { ⌜ n * 8 ≤ length (now rows) ⌝ }
     requires { ⌜ Placed (now listing) (now at) 0 ⌝ }
@@ -27,12 +136,12 @@ pub fn read_lines(listing: &[u8], n: usize, rows: &mut [u64], at: &mut [u16]) ->
     while k < n {
         let a = k * 40;
         let e = a + 40;
-        let l = lines::line::read_line(k + 1, &listing[a..e]);
-        let m = slot(p, l);
-        let q = point_from(p, k, l);
-        keep_line(rows, k, l);
-        place_point(at, m, q);
-        p = after(p, k, l);
+        let x = read_bytes(k + 1, &listing[a..e]);
+        let row = x.row;
+        let sort = x.sort;
+        write_row(rows, k, row);
+        note(at, p, k, sort);
+        p = after(p, k, sort);
         k += 1;
     }
     p

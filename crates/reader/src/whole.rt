@@ -1,7 +1,11 @@
 // The tests over the whole listing that look at its points alone: refusals 7 to 10.
 use crate::kept::line_of;
 use crate::kept::point_at;
+use crate::kept::row_of;
 use crate::scan::Scan;
+use decoded::kinds::JUMP;
+use decoded::kinds::STOP;
+use decoded::rows::Row;
 use model::answers::Judgement;
 use model::answers::Refusal;
 use model::machine::Instruction;
@@ -9,6 +13,7 @@ ghost use mathlib.Core.Path.{_≡_};
 ghost use mathlib.Core.List.{[], _∷_};
 ghost use Rattle.model.specs.Answers.{_andThen_};
 ghost use Rattle.model.specs.Listing.{goesOn, targets, targetsExist};
+ghost use Rattle.decoded.specs.Decoded.{instructionFrom};
 ghost use Rattle.reader.specs.Scan.{tableTo};
 ghost use Rattle.reader.specs.Whole.{targetsTo, lastJudged, pointsJudged};
 ghost use Rattle.reader.specs.Kept.{Kept, Placed, Filled};
@@ -67,37 +72,14 @@ fn target_exists(n: usize, line: usize, t: usize) -> Judgement
     Judgement::Refused(Refusal::NoSuchTarget { line })
 }
 
-// 9 for one instruction, of n points.
-fn own_targets_exist(n: usize, line: usize, i: Instruction) -> Judgement
-    ensures { λ r. ⌜ r ≡ targetsExist n line (targets i) ⌝ }
+// 9 for the instruction of a row, of n points. From STOP to STOR none names a target; every other one names it in F4.
+fn own_target_exists(n: usize, line: usize, r: Row) -> Judgement
+    ensures { λ j. ⌜ j ≡ targetsExist n line (targets (instructionFrom r)) ⌝ }
 {
-    match i {
-        Instruction::Stop => Judgement::Accepted,
-        Instruction::Setc { d: _, c: _ } => Judgement::Accepted,
-        Instruction::Copy { d: _, i: _ } => Judgement::Accepted,
-        Instruction::Addw { d: _, i: _, o: _ } => Judgement::Accepted,
-        Instruction::Subw { d: _, i: _, o: _ } => Judgement::Accepted,
-        Instruction::Mulw { d: _, i: _, o: _ } => Judgement::Accepted,
-        Instruction::Divf { d: _, i: _, o: _ } => Judgement::Accepted,
-        Instruction::Load {
-            d: _,
-            w: _,
-            table: _,
-            a: _,
-            i: _,
-            k: _,
-        } => Judgement::Accepted,
-        Instruction::Stor {
-            v: _,
-            w: _,
-            a: _,
-            i: _,
-            k: _,
-        } => Judgement::Accepted,
-        Instruction::Jump { t } => target_exists(n, line, t),
-        Instruction::Bltu { i: _, t, o: _ } => target_exists(n, line, t),
-        Instruction::Bequ { i: _, t, o: _ } => target_exists(n, line, t),
+    if (STOP <= r.kind) & (r.kind < JUMP) {
+        return Judgement::Accepted;
     }
+    target_exists(n, line, r.fourth as usize)
 }
 
 // 9 for the first n points, of n.
@@ -114,9 +96,8 @@ fn targets_exist<'a>(
     let mut j = Judgement::Accepted;
     let mut p = 0;
     while p < n {
-        let q = point_at(listing, rows, at, lines, n, p);
-        let i = q.instruction;
-        j = and_then(j, own_targets_exist(n, q.line, i));
+        let r = row_of(listing, rows, at, lines, n, p);
+        j = and_then(j, own_target_exists(n, line_of(at, p), r));
         p += 1;
     }
     j
@@ -133,7 +114,7 @@ fn last_judged(lines: usize, i: Instruction) -> Judgement
 }
 
 // 7 to 10 of a listing with so many lines, all read.
-pub fn judge_points<'a>(
+pub(crate) fn judge_points<'a>(
     listing: &'a [u8],
     rows: &'a [u64],
     at: &'a [u16],

@@ -1,25 +1,22 @@
 // Runs a listing over files: run_listing LISTING TRAYS RESULTS STATE BUDGET. It reads all four files, runs at most BUDGET steps,
 // replaces the results and the state, and prints one line. A refusal or an error changes no file.
-mod answer;
 mod files;
-mod numbers;
-mod states;
 
-use crate::answer::answer_line;
 use crate::files::beside;
 use crate::files::is_read;
 use crate::files::is_there;
 use crate::files::open;
 use crate::files::replace_both;
 use crate::files::say;
-use crate::numbers::Parsed;
-use crate::numbers::parse;
-use crate::states::read_state;
-use crate::states::write_state;
 use libc::STDERR_FILENO;
 use libc::STDOUT_FILENO;
 use model::answers::Report;
 use model::machine::State;
+use saved::answer::answer_line;
+use saved::numbers::Parsed;
+use saved::numbers::parse;
+use saved::states::read_state;
+use saved::states::write_state;
 
 // Replaces the results and the state by what a run handed back.
 fn is_saved(results: &[u8], state: State) -> bool {

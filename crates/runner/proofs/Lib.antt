@@ -1,7 +1,5 @@
-pub mod Accesses
-pub mod Copying
-pub mod Moves
 pub mod Meeting
+pub mod Gathered
 pub mod States
 pub mod Running
 pub mod Promise

@@ -28,7 +28,7 @@ use Rattle.model.proofs.Runs.{Made, made}
 use Rattle.model.proofs.Safety.{good-start}
 use Rattle.reader.specs.declared.listing.Listing.{Listing}
 use Rattle.checker.specs.Judged.{Judged}
-use Rattle.runner.specs.Stepped.{config, ValuesOver, Steppable, Stepped}
+use Rattle.steps.specs.Stepped.{config, ValuesOver, Steppable, Stepped}
 use Rattle.runner.specs.Runs.{state, outcome, Held, stateJudged}
 
 -- a listing that the code judged to pass

@@ -1,16 +1,12 @@
 -- 15 to 17 for a state, over the points as the code looks them up. Assumes nothing.
-use Prim.Native.Nat.{ℕ, _+_, _/_, _≤_, _<_}
+use Prim.Native.Nat.{ℕ, _/_, _≤_, _<_}
 use mathlib.Core.Bool.{Bool, true, false, _&&_, _||_, cond}
 use mathlib.Core.List.{List}
 use mathlib.Core.Path.{_≡_, refl, sym, ap, subst, _∙_}
 use native.Mathlib.Omega.{arith}
 use lib.Dec.{ltb, leb}
-use lib.ListN.{length, set, replicate, length-set, length-replicate}
-use lib.Seq.{getD-set-same, getD-set-other}
-use native.Mathlib.Nat.{not-suc-le-zero}
-use native.Mathlib.Decide.{ℕ-discrete}
+use lib.ListN.{length}
 use borrow.Author.Tests.{ltb-true, ltb-false, leb-true, le-leb, lt-leb, lt-ltb, le-ltb}
-use Rattle.model.specs.declared.machine.Instruction.the-variants.{Stop}
 use Rattle.model.specs.declared.machine.State.{State}
 use Rattle.model.specs.declared.claims.Claim.{Claim}
 use Rattle.model.specs.declared.answers.Judgement.the-variants.{Accepted, Refused as refused}
@@ -27,8 +23,7 @@ use Rattle.reader.specs.Scan.{coded, claimsIn, tableTo}
 use Rattle.reader.specs.Whole.{tableAt}
 use Rattle.reader.specs.Listing.{firstOf, PointLines}
 use Rattle.reader.proofs.Listings.{listing-points, point-lines}
-use Rattle.runner.specs.declared.Decoded.{Decoded}
-use Rattle.runner.specs.Runs.{stateJudged, decodedAt, DecodedFrom}
+use Rattle.runner.specs.Runs.{stateJudged}
 
 -- the point that the code looks up is the listing's
 pub record InTable (s : List ℕ) (p : ℕ) (q : code.Point) : Type 0 where
@@ -49,20 +44,6 @@ in-table s p q read i is =
       lines = subst (PointLines s (length s / 40)) (sym is) (point-lines s (length s / 40) ps (all .claims) (all .read) p i (omega arith));
       claims = rw same (all .read .each p i .gathered);
     }
-
--- the table of a run: nothing decoded, and one point more
-pub none-decoded : (s : List ℕ) (lines : ℕ) (d : Decoded) → DecodedFrom s lines 0 (replicate 512 d)
-none-decoded s lines d = record { long = length-replicate 512 d; each = λ p h. absurd (not-suc-le-zero h) }
-
-pub one-decoded : (s : List ℕ) (lines n : ℕ) (table : List Decoded) (q : code.Point) → n < 512 → q ≡ tableAt (tableTo s lines) n → DecodedFrom s lines n table → DecodedFrom s lines (n + 1) (set table n (record { instruction = q .instruction }))
-one-decoded s lines n table q room is h = record { long = length-set table n (record { instruction = q .instruction }) ∙ h .long; each = λ p below. go p below (ℕ-discrete p n) }
-  where
-    there : decodedAt (set table n (record { instruction = q .instruction })) n ≡ tableAt (tableTo s lines) n .instruction
-    there = ap (λ (d : Decoded). d .instruction) (getD-set-same table n (record { instruction = q .instruction }) (record { instruction = Stop }) (omega (arith, h .long))) ∙ ap (λ (x : code.Point). x .instruction) is
-
-    go : (p : ℕ) → p < n + 1 → Dec (p ≡ n) → decodedAt (set table n (record { instruction = q .instruction })) p ≡ tableAt (tableTo s lines) p .instruction
-    go p below (yes e) = subst (λ (k : ℕ). decodedAt (set table n (record { instruction = q .instruction })) k ≡ tableAt (tableTo s lines) k .instruction) (sym e) there
-    go p below (no e) = ap (λ (d : Decoded). d .instruction) (getD-set-other table n p (record { instruction = q .instruction }) (record { instruction = Stop }) e) ∙ h .each p (omega arith)
 
 pub tested : {vs vs′ : List ℕ} {cs cs′ : List Claim} → vs ≡ vs′ → cs ≡ cs′ → meets vs (factsOf cs) ≡ meets vs′ (factsOf cs′)
 tested e f = rw (e, f)

@@ -1,4 +1,3 @@
-pub mod Stepped
 pub mod Meets
 pub mod Runs
 pub mod Promise

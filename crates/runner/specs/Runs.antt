@@ -1,22 +1,21 @@
 -- What the parts of a run hand to each other.
-use Prim.Native.Nat.{ℕ, _/_, _<_}
+use Prim.Native.Nat.{ℕ, _*_, _/_, _≤_, _<_}
 use mathlib.Core.Path.{_≡_}
 use mathlib.Core.List.{List}
-use lib.ListN.{length, getD}
-use Rattle.model.specs.declared.machine.Instruction.{Instruction}
-use Rattle.model.specs.declared.machine.Instruction.the-variants.{Stop}
+use lib.ListN.{length}
 use Rattle.model.specs.declared.machine.State.{State}
 use Rattle.model.specs.declared.answers.Judgement.{Judgement}
 use Rattle.model.specs.declared.answers.Report.{Report}
 use Rattle.model.specs.declared.answers.Outcome.{Outcome}
-use Rattle.model.specs.Limits.{lineBytes, greatestPoints}
+use Rattle.model.specs.Limits.{lineBytes}
 use Rattle.model.specs.Answers.{_andThen_}
 use Rattle.model.specs.Listing.{Point, pointExists, readAs, listingOf, pointsOf}
 use Rattle.model.specs.Run.{tablesFit, claimsMet, Ran}
+use Rattle.decoded.specs.Rows.{rowAt}
+use Rattle.decoded.specs.Decoded.{instructionFrom}
 use Rattle.reader.specs.Scan.{tableTo}
 use Rattle.reader.specs.Whole.{tableAt}
 use Rattle.reader.specs.Kept.{Filled}
-use Rattle.runner.specs.declared.Decoded.{Decoded}
 use Rattle.runner.specs.declared.Ending.{Ending}
 
 -- a state from its parts
@@ -33,14 +32,10 @@ pub record Held (s rows at : List ℕ) (n : ℕ) : Type 0 where
   pub filled : Filled s rows at (length s / lineBytes) n
   pub count : n ≡ length (pointsOf (listingOf s))
 
--- point p of the table of a run; past its end a STOP
-abbrev pub decodedAt : List Decoded → ℕ → Instruction
-decodedAt table p = getD table p (record { instruction = Stop }) .instruction
-
--- the table has a place for every point that there may be, and holds the instructions of the first n
-pub record DecodedFrom (s : List ℕ) (lines n : ℕ) (table : List Decoded) : Type 0 where
-  pub long : length table ≡ greatestPoints
-  pub each : (p : ℕ) → p < n → decodedAt table p ≡ tableAt (tableTo s lines) p .instruction
+-- the first n rows of the code hold the instructions of the first n points
+pub record Gathered (s : List ℕ) (lines n : ℕ) (code : List ℕ) : Type 0 where
+  pub long : n * 8 ≤ length code
+  pub each : (p : ℕ) → p < n → instructionFrom (rowAt code p) ≡ tableAt (tableTo s lines) p .instruction
 
 -- 15 to 17, in order
 abbrev pub stateJudged : List Point → State → ℕ → ℕ → Judgement

@@ -1,25 +1,23 @@
 // The runner: a run of a listing with a budget of steps.
-mod bytes;
 mod meets;
-mod step;
-mod values;
 
 use crate::meets::meets;
-use crate::step::is_stop;
-use crate::step::step;
-use crate::values::registers_of;
-use crate::values::values_of;
 use checker::judged_listing;
+use decoded::rows::write_row;
 use model::answers::Judgement;
 use model::answers::Outcome;
 use model::answers::Refusal;
 use model::answers::Report;
-use model::machine::Instruction;
 use model::machine::State;
 use reader::facts::facts_of;
 use reader::kept::point_at;
+use reader::kept::row_of;
 use reader::listing::first_of;
 use reader::scan::Point;
+use steps::step::is_stop;
+use steps::step::step;
+use steps::values::registers_of;
+use steps::values::values_of;
 ghost use mathlib.Core.Path.{_≡_};
 ghost use Prim.Native.Nat.{_*_, _/_, _≤_};
 ghost use lib.ListN.{length, take};
@@ -34,17 +32,12 @@ ghost use Rattle.model.specs.Run as Run;
 ghost use Rattle.reader.specs.Scan.{claimsIn};
 ghost use Rattle.reader.specs.Kept.{Kept, Filled};
 ghost use Rattle.reader.specs.Listing.{firstOf, PointLines};
-ghost use Rattle.runner.specs.Runs.{state, outcome, Held, DecodedFrom, stateJudged, RunInPlace};
+ghost use Rattle.runner.specs.Runs.{state, outcome, Held, Gathered, stateJudged, RunInPlace};
 
 // What a run in place hands back besides the state.
 pub struct Ending {
     pub report: Report,
     pub steps: u32,
-}
-
-// The instruction of a point, in the table of a run.
-struct Decoded {
-    instruction: Instruction,
 }
 
 // Whether the values meet the claims of a point.
@@ -118,32 +111,64 @@ fn ended(report: Report, point: usize, values: [u32; 18], steps: u32) -> Outcome
     }
 }
 
-// The instructions of the first n points, decoded once for all steps of a run.
-fn instructions_of<'a>(
+// Gathers the rows of the first n points, in their order.
+fn gather<'a>(
     listing: &'a [u8],
     rows: &'a [u64],
     at: &'a [u16],
     lines: usize,
     n: usize,
-) -> [Decoded; 512]
+    code: &mut [u64],
+)
     requires { ⌜ Filled (now listing) (now rows) (now at) lines n ⌝ }
-    ensures { λ r. ⌜ DecodedFrom (now (listing .entry)) lines n r ⌝ }
+    requires { ⌜ n * 8 ≤ length (now code) ⌝ }
+    ensures { λ _. ⌜ Gathered (now (listing .entry)) lines n (now (code .exit)) ⌝ }
 {
-    let none = Decoded {
-        instruction: Instruction::Stop,
-    };
-    let mut table = [none; 512];
     let mut p = 0;
     while p < n {
-        let q = point_at(listing, rows, at, lines, n, p);
-        let instruction = q.instruction;
-        table[p] = Decoded { instruction };
+        let r = row_of(listing, rows, at, lines, n, p);
+        write_row(code, p, r);
         p += 1;
     }
-    table
+}
+
+// The run from a state that nothing turns back, with code that is lent for the rows of the points.
+fn run_from<'a>(
+    listing: &'a [u8],
+    rows: &'a [u64],
+    at: &'a [u16],
+    count: usize,
+    code: &mut [u64],
+    start: usize,
+    registers: [u32; 16],
+    trays: &[u8],
+    results: &mut [u8],
+    budget: u32,
+) -> Outcome
+    requires { ⌜ Held (now listing) (now rows) (now at) count ⌝ }
+    requires { ⌜ listingJudged (listingOf (now listing)) ≡ Accepted ⌝ }
+    requires { ⌜ stateJudged (pointsOf (listingOf (now listing))) (state start registers) (length (now trays)) (length (now results)) ≡ Accepted ⌝ }
+    requires { ⌜ count * 8 ≤ length (now code) ⌝ }
+    ensures { λ r. ⌜ (r ≡ Run.run (now (listing .entry)) (state start registers) (now (trays .entry)) (now (results .entry)) budget .outcome) × (now (results .exit) ≡ Run.run (now (listing .entry)) (state start registers) (now (trays .entry)) (now (results .entry)) budget .results) ⌝ }
+{
+    gather(listing, rows, at, listing.len() / 40, count, code);
+    let mut values = values_of(registers, trays.len() as u32, results.len() as u32);
+    let mut point = start;
+    let mut made: u32 = 0;
+    loop {
+        if is_stop(code, point) {
+            return ended(Report::Stopped, point, values, made);
+        }
+        if made == budget {
+            return ended(Report::Paused, point, values, made);
+        }
+        point = step(code, point, &mut values, trays, results);
+        made += 1;
+    }
 }
 
 // The run of a listing that passes, from the parts of a state.
+// A listing of few points has little code, so that its call does not pay for the longest.
 fn run_passed<'a>(
     listing: &'a [u8],
     rows: &'a [u64],
@@ -164,23 +189,34 @@ fn run_passed<'a>(
     if let Judgement::Refused(r) = state_judged(listing, rows, at, count, start, registers, n, m) {
         return turned_back(start, registers, r);
     }
-    let lines = listing.len() / 40;
-    let table = instructions_of(listing, rows, at, lines, count);
-    let mut values = values_of(registers, n as u32, m as u32);
-    let mut point = start;
-    let mut made: u32 = 0;
-    loop {
-        let d = table[point];
-        let i = d.instruction;
-        if is_stop(i) {
-            return ended(Report::Stopped, point, values, made);
-        }
-        if made == budget {
-            return ended(Report::Paused, point, values, made);
-        }
-        point = step(i, point, &mut values, trays, results);
-        made += 1;
+    if count <= 64 {
+        let mut code = [0u64; 512];
+        return run_from(
+            listing,
+            rows,
+            at,
+            count,
+            &mut code,
+            start,
+            registers,
+            trays,
+            results,
+            budget,
+        );
     }
+    let mut code = [0u64; 4096];
+    run_from(
+        listing,
+        rows,
+        at,
+        count,
+        &mut code,
+        start,
+        registers,
+        trays,
+        results,
+        budget,
+    )
 }
 
 // A run that is turned back hands back the state as it was.
@@ -207,7 +243,7 @@ fn run_in(
     requires { ⌜ (length (now listing) ≤ greatestListing → length (now listing) / lineBytes * 8 ≤ length (now rows)) ⌝ }
     ensures { λ r. ⌜ (r ≡ Run.run (now (listing .entry)) (state start registers) (now (trays .entry)) (now (results .entry)) budget .outcome) × (now (results .exit) ≡ Run.run (now (listing .entry)) (state start registers) (now (trays .entry)) (now (results .entry)) budget .results) ⌝ }
 {
-    let mut at = [0u16; 1028];
+    let mut at = [0u16; 1026];
     let l = judged_listing(listing, rows, &mut at);
     let j = l.judgement;
     match j {

@@ -1,44 +1,83 @@
+use Prim.Native.Nat.{ℕ}
+use mathlib.Core.Path.{_≡_}
+use mathlib.Core.List.{List}
 use borrow.Author.Needs.{needs}
+use Rattle.model.specs.declared.text.Field.{Field}
+use Rattle.model.specs.declared.text.Word.{Word}
+use Rattle.model.specs.Lines.{fieldAt, F1, F2, F3, F5, variableOrBlank, plusIn, minusIn}
+use Rattle.decoded.specs.Rows.{numbers}
+use Rattle.decoded.specs.Encoded.{kindOf, rowOf}
 use Rattle.decoded.proofs.encode.row_of.Statement.{statement}
 use Rattle.decoded.proofs.encode.row_of.Tie as tie
 
-enum-told : tie.Need-enum-told
-enum-told c = search needs
+made : {k a b c d e f g : ℕ} (w : Word) (fs : List Field) → k ≡ kindOf w → a ≡ F1 fs → b ≡ F2 fs → c ≡ F3 fs
+    → d ≡ variableOrBlank (fieldAt fs 3) → e ≡ F5 fs → f ≡ plusIn (fieldAt fs 5) → g ≡ minusIn (fieldAt fs 5)
+    → numbers k a b c d e f g ≡ rowOf w fs
+made w fs p q r s t u v x = rw (p, q, r, s, t, u, v, x)
 
-numbers-of-requires : tie.Need-numbers-of-requires
-numbers-of-requires c κs = search needs
+array-copy-out-f1 : tie.Need-array-copy-out-f1
+array-copy-out-f1 c = search needs
 
-enum-known-l : tie.Need-enum-known-l
-enum-known-l c = search needs
+array-copy-out-f2 : tie.Need-array-copy-out-f2
+array-copy-out-f2 c = search needs
 
-claim-row-requires : tie.Need-claim-row-requires
-claim-row-requires c κs = search needs
+array-copy-out-f3 : tie.Need-array-copy-out-f3
+array-copy-out-f3 c = search needs
 
-enum-known-l-2 : tie.Need-enum-known-l-2
-enum-known-l-2 c = search needs
+array-copy-out-f4 : tie.Need-array-copy-out-f4
+array-copy-out-f4 c = search needs
 
-instruction-row-requires : tie.Need-instruction-row-requires
-instruction-row-requires c κs = search needs
+array-copy-out-f5 : tie.Need-array-copy-out-f5
+array-copy-out-f5 c = search needs
+
+array-copy-out-f6 : tie.Need-array-copy-out-f6
+array-copy-out-f6 c = search needs
+
+kind-of-requires : tie.Need-kind-of-requires
+kind-of-requires c κs = search needs
+
+value-requires : tie.Need-value-requires
+value-requires c κs = search needs
+
+value-requires-2 : tie.Need-value-requires-2
+value-requires-2 c κs = search needs
+
+value-requires-3 : tie.Need-value-requires-3
+value-requires-3 c κs = search needs
+
+variable-or-blank-requires : tie.Need-variable-or-blank-requires
+variable-or-blank-requires c κs = search needs
+
+value-requires-4 : tie.Need-value-requires-4
+value-requires-4 c κs = search needs
+
+plus-in-requires : tie.Need-plus-in-requires
+plus-in-requires c κs = search needs
+
+minus-in-requires : tie.Need-minus-in-requires
+minus-in-requires c κs = search needs
 
 returns : tie.Need-returns
-returns c = simp (← c .numbers-of .ensures, c .before .enum-told .given .1)
-
-returns-2 : tie.Need-returns-2
-returns-2 c = search needs
-
-returns-3 : tie.Need-returns-3
-returns-3 c = search needs
+returns c =
+    made (c .before .before .before .before .before .before .before .before .before .before .before .before .before .before .args .w) (c .before .before .before .before .before .before .before .before .before .before .before .before .before .before .args .t2) (c .before .before .before .before .before .before .before .kind-of .ensures) (c .before .before .before .before .before .before .value .ensures) (c .before .before .before .before .before .value2 .ensures) (c .before .before .before .before .value3 .ensures)
+    (c .before .before .before .variable-or-blank .ensures) (c .before .before .value4 .ensures) (c .before .plus-in .ensures) (c .minus-in .ensures)
 
 pub row-of-spec : {M : Type 1} → statement M
 row-of-spec =
     tie.close
     (tie.spec
-    enum-told
-    numbers-of-requires
-    enum-known-l
-    claim-row-requires
-    enum-known-l-2
-    instruction-row-requires
-    returns
-    returns-2
-    returns-3)
+    array-copy-out-f1
+    array-copy-out-f2
+    array-copy-out-f3
+    array-copy-out-f4
+    array-copy-out-f5
+    array-copy-out-f6
+    kind-of-requires
+    value-requires
+    value-requires-2
+    value-requires-3
+    variable-or-blank-requires
+    value-requires-4
+    plus-in-requires
+    minus-in-requires
+    returns)

@@ -69,6 +69,15 @@ mul-rows-7 c = search needs
 slice-write-rows-7 : tie.Need-slice-write-rows-7
 slice-write-rows-7 c = simp length-set (omega arith)
 
+add-rows-7 : tie.Need-add-rows-7
+add-rows-7 c = search needs
+
+mul-rows-8 : tie.Need-mul-rows-8
+mul-rows-8 c = search needs
+
+slice-write-rows-8 : tie.Need-slice-write-rows-8
+slice-write-rows-8 c = simp length-set (omega arith)
+
 same-length : tie.Need-same-length
 same-length c = search needs
 
@@ -101,5 +110,8 @@ write-row-spec =
     add-rows-6
     mul-rows-7
     slice-write-rows-7
+    add-rows-7
+    mul-rows-8
+    slice-write-rows-8
     same-length
     returns)

@@ -11,7 +11,7 @@ use Rattle.decoded.proofs.Written.{row-long}
 use Rattle.reader.specs.Scan.{progressOf, tableTo}
 use Rattle.reader.specs.Kept.{LinesKept, PointsPlaced}
 use Rattle.reader.proofs.Tables.{within, progress-next}
-use Rattle.reader.proofs.Keeping.{line-read, lines-next, places-next, place-small}
+use Rattle.reader.proofs.Keeping.{line-read, lines-next, places-next}
 use Rattle.reader.proofs.read.read_lines.Statement.{statement}
 use Rattle.reader.proofs.read.read_lines.Tie as tie
 
@@ -34,40 +34,29 @@ mul-a c = omega arith
 add-e : tie.Need-add-e Inv-loop μ-loop
 add-e c = omega arith
 
-add-read-line : tie.Need-add-read-line Inv-loop μ-loop
-add-read-line c = omega arith
+add-read-bytes : tie.Need-add-read-bytes Inv-loop μ-loop
+add-read-bytes c = omega arith
 
-sub-read-line : tie.Need-sub-read-line Inv-loop μ-loop
-sub-read-line c = omega arith
+sub-read-bytes : tie.Need-sub-read-bytes Inv-loop μ-loop
+sub-read-bytes c = omega arith
 
-part-read-line-start : tie.Need-part-read-line-start Inv-loop μ-loop
-part-read-line-start c = omega arith
+part-read-bytes-start : tie.Need-part-read-bytes-start Inv-loop μ-loop
+part-read-bytes-start c = omega arith
 
-part-read-line-end : tie.Need-part-read-line-end Inv-loop μ-loop
-part-read-line-end c = omega arith
+part-read-bytes-end : tie.Need-part-read-bytes-end Inv-loop μ-loop
+part-read-bytes-end c = omega arith
 
-read-line-requires : tie.Need-read-line-requires Inv-loop μ-loop
-read-line-requires c κs = simp (length-take, length-drop) (omega arith)
+read-bytes-requires : tie.Need-read-bytes-requires Inv-loop μ-loop
+read-bytes-requires c κs = simp (length-take, length-drop) (omega arith)
 
-slot-requires : tie.Need-slot-requires Inv-loop μ-loop
-slot-requires c κs = search needs
+write-row-requires : tie.Need-write-row-requires Inv-loop μ-loop
+write-row-requires c κs = let i = c .before .before .before .before .before .loop .inv .1 in let p = c .before .before .before .before .before .before .before .before .before .before .pre .1 .0 in omega arith
 
-point-from-requires : tie.Need-point-from-requires Inv-loop μ-loop
-point-from-requires c κs = omega arith
-
-keep-line-requires : tie.Need-keep-line-requires Inv-loop μ-loop
-keep-line-requires c κs = let i = c .before .before .before .before .before .before .loop .inv .1 in let p = c .before .before .before .before .before .before .before .before .before .before .before .pre .1 .0 in omega arith
-
-place-point-requires : tie.Need-place-point-requires Inv-loop μ-loop
-place-point-requires c κs =
-    let l = c .before .before .before .before .before .before .before .before .before .before .loop in
-    let a = c .before .before .before .before .before .before .before .before .before .before .before .before .before .before .before in
-    let few : l .k < 65535 = omega arith in
-    let small = place-small _ _ _ _ _ (l .inv .5) (line-read _ _ _ (c .before .before .before .before .before .before .before .read-line .ensures)) (c .before .before .before .before .before .point-from .ensures) few in
-    (l .inv .2 ∙ a .pre .1 .1 .long, c .before .before .before .before .before .before .slot .ensures .1, small .0, small .1)
+note-requires : tie.Need-note-requires Inv-loop μ-loop
+note-requires c κs = let l = c .before .before .before .before .before .before .before .before .before .loop in (l .inv .2 ∙ c .before .before .before .before .before .before .before .before .before .before .before .before .before .before .pre .1 .1 .long, omega arith, rw (l .inv .5) (within _ _))
 
 after-requires : tie.Need-after-requires Inv-loop μ-loop
-after-requires c κs = (omega arith, rw (c .before .before .before .before .before .before .before .before .before .before .before .before .before .loop .inv .5) (within _ _))
+after-requires c κs = (omega arith, rw (c .before .before .before .before .before .before .before .before .before .before .before .before .loop .inv .5) (within _ _))
 
 add-k : tie.Need-add-k Inv-loop μ-loop
 add-k c = omega arith
@@ -77,19 +66,18 @@ loop-less c = omega arith
 
 loop-again : tie.Need-loop-again Inv-loop μ-loop
 loop-again c =
-    let l = c .before .before .before .before .before .before .before .before .before .before .before .before .before .before .loop in
-    let a = c .before .before .before .before .before .before .before .before .before .before .before .before .before .before .before .before .before .before .before in
+    let l = c .before .before .before .before .before .before .before .before .before .before .before .before .before .loop in
+    let a = c .before .before .before .before .before .before .before .before .before .before .before .before .before .before .before .before .before .before in
     let i = l .inv .1 in
     let p = a .pre .1 .0 in
-    let t = c .before .before .before .before .before .before .before .before .before .before .before .before .before .loop-test .taken in
-    let e = line-read _ _ _ (c .before .before .before .before .before .before .before .before .before .before .before .read-line .ensures) in (
+    let t = c .before .before .before .before .before .before .before .before .before .before .before .before .loop-test .taken in
+    let line = line-read _ _ _ (c .before .before .before .before .before .before .before .before .before .before .read-bytes .ensures) in (
       omega arith,
-      rw (c .before .before .before .before .before .before .before .keep-line .ensures) (row-long _ _ _ ∙ l .inv .1),
-      c .before .before .before .place-point .kept .0 ∙ l .inv .2,
-      rw (c .before .before .before .before .before .before .before .keep-line .ensures, add-one (l .k)) (lines-next _ _ _ _ e (omega arith) (l .inv .3)),
-      rw (c .before .before .before .place-point .ensures, add-one (l .k))
-          (places-next _ _ _ _ _ _ _ (l .inv .2 ∙ a .pre .1 .1 .long) (l .inv .5) e (c .before .before .before .before .before .before .before .before .before .before .slot .ensures .0) (c .before .before .before .before .before .before .before .before .before .before .slot .ensures .1) (c .before .before .before .before .before .before .before .before .before .point-from .ensures) (l .inv .4)),
-      rw (add-one (l .k), progress-next, c .after .ensures, e, l .inv .5),
+      rw (c .before .before .before .before .before .before .before .write-row .ensures) (row-long _ _ _ ∙ l .inv .1),
+      c .before .before .before .note .kept .0 ∙ l .inv .2,
+      rw (c .before .before .before .before .before .before .before .write-row .ensures, add-one (l .k)) (lines-next _ _ _ _ (line .row) (omega arith) (l .inv .3)),
+      rw (c .before .before .before .note .ensures, add-one (l .k), line .sort) (places-next _ _ _ (l .inv .2 ∙ a .pre .1 .1 .long) (l .inv .4) (l .p) (l .inv .5)),
+      rw (add-one (l .k), progress-next, c .after .ensures, line .sort, l .inv .5),
     )
 
 same-length : tie.Need-same-length Inv-loop μ-loop
@@ -115,15 +103,13 @@ read-lines-spec =
     loop-holds
     mul-a
     add-e
-    add-read-line
-    sub-read-line
-    part-read-line-start
-    part-read-line-end
-    read-line-requires
-    slot-requires
-    point-from-requires
-    keep-line-requires
-    place-point-requires
+    add-read-bytes
+    sub-read-bytes
+    part-read-bytes-start
+    part-read-bytes-end
+    read-bytes-requires
+    write-row-requires
+    note-requires
     after-requires
     add-k
     loop-less

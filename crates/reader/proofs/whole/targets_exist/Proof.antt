@@ -1,8 +1,9 @@
 use Prim.Native.Nat.{_≤_, _-_}
-use mathlib.Core.Path.{_≡_, refl}
+use mathlib.Core.Path.{_≡_, refl, ap, _∙_}
 use native.Mathlib.Numerals.{add-one}
 use native.Mathlib.Omega.{arith}
 use borrow.Author.Needs.{needs}
+use Rattle.reader.specs.declared.scan.Point.{Point}
 use Rattle.reader.specs.Scan.{tableTo}
 use Rattle.reader.specs.Whole.{targetsTo}
 use Rattle.reader.proofs.whole.targets_exist.Statement.{statement}
@@ -18,11 +19,14 @@ loop-holds : tie.Need-loop-holds Inv-loop μ-loop
 unfolding targetsTo
 loop-holds c = (omega arith, refl)
 
-point-at-requires : tie.Need-point-at-requires Inv-loop μ-loop
-point-at-requires c κs = search needs
+row-of-requires : tie.Need-row-of-requires Inv-loop μ-loop
+row-of-requires c κs = search needs
 
-own-targets-exist-requires : tie.Need-own-targets-exist-requires Inv-loop μ-loop
-own-targets-exist-requires c κs = search needs
+line-of-requires : tie.Need-line-of-requires Inv-loop μ-loop
+line-of-requires c κs = let few = c .before .before .before .before .before .before .pre .few in let t = c .before .loop-test .taken in (c .before .before .before .before .before .before .pre .long, omega arith)
+
+own-target-exists-requires : tie.Need-own-target-exists-requires Inv-loop μ-loop
+own-target-exists-requires c κs = search needs
 
 and-then-requires : tie.Need-and-then-requires Inv-loop μ-loop
 and-then-requires c κs = search needs
@@ -35,7 +39,9 @@ loop-less c = omega arith
 
 loop-again : tie.Need-loop-again Inv-loop μ-loop
 unfolding targetsTo
-loop-again c = (omega arith, rw (add-one, c .and-then .ensures, c .before .own-targets-exist .ensures, c .before .before .point-at .ensures, c .before .before .before .before .loop .inv .1))
+loop-again c =
+    let line = c .before .before .line-of .ensures ∙ ap (λ (q : Point). q .line) (c .before .before .before .before .before .before .before .before .before .pre .each (c .before .before .before .before .before .loop .p) (c .before .before .before .before .loop-test .taken)) in
+    (omega arith, rw (add-one, c .and-then .ensures, c .before .own-target-exists .ensures, c .before .before .before .row-of .ensures, line, c .before .before .before .before .before .loop .inv .1))
 
 returns : tie.Need-returns Inv-loop μ-loop
 returns c =
@@ -49,8 +55,9 @@ targets-exist-spec =
     Inv-loop
     μ-loop
     loop-holds
-    point-at-requires
-    own-targets-exist-requires
+    row-of-requires
+    line-of-requires
+    own-target-exists-requires
     and-then-requires
     add-p
     loop-less

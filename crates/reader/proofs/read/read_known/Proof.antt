@@ -1,0 +1,42 @@
+use mathlib.Core.Path.{sym, _∙_}
+use Rattle.reader.proofs.Reading.{known-accepted, known-refused}
+use borrow.Author.Needs.{needs}
+use Rattle.reader.proofs.read.read_known.Statement.{statement}
+use Rattle.reader.proofs.read.read_known.Tie as tie
+
+judge-requires : tie.Need-judge-requires
+judge-requires c κs = search needs
+
+enum-known-r : tie.Need-enum-known-r
+enum-known-r c = search needs
+
+refused-requires : tie.Need-refused-requires
+refused-requires c κs = search needs
+
+enum-told : tie.Need-enum-told
+enum-told c = search needs
+
+row-of-requires : tie.Need-row-of-requires
+row-of-requires c κs = search needs
+
+sort-of-requires : tie.Need-sort-of-requires
+sort-of-requires c κs = search needs
+
+returns : tie.Need-returns
+returns c = known-refused _ _ _ _ _ (sym (c .before .before .before .before .judge .ensures) ∙ c .before .before .r .given .1) (c .refused .ensures)
+
+returns-2 : tie.Need-returns-2
+returns-2 c = known-accepted _ _ _ _ (sym (c .before .before .before .before .judge .ensures) ∙ c .before .before .enum-told .given .1) (c .before .row-of .ensures) (c .sort-of .ensures)
+
+pub read-known-spec : {M : Type 1} → statement M
+read-known-spec =
+    tie.close
+    (tie.spec
+    judge-requires
+    enum-known-r
+    refused-requires
+    enum-told
+    row-of-requires
+    sort-of-requires
+    returns
+    returns-2)

@@ -1,0 +1,3 @@
+pub mod Accesses
+pub mod Copying
+pub mod Moves

@@ -1,0 +1,25 @@
+use borrow.Author.Needs.{needs}
+use Rattle.steps.proofs.step.divide.Statement.{statement}
+use Rattle.steps.proofs.step.divide.Tie as tie
+
+mul-x : tie.Need-mul-x
+mul-x c = search needs
+
+element-copy-out-x : tie.Need-element-copy-out-x
+element-copy-out-x c = search needs
+
+operand-value-requires : tie.Need-operand-value-requires
+operand-value-requires c κs = search needs
+
+quotient-requires : tie.Need-quotient-requires
+quotient-requires c κs = search needs
+
+put-requires : tie.Need-put-requires
+put-requires c κs = search needs
+
+returns : tie.Need-returns
+returns c = record { point = c .put .ensures .point; values = cc }
+
+pub divide-spec : {M : Type 1} → statement M
+divide-spec =
+    tie.close (tie.spec mul-x element-copy-out-x operand-value-requires quotient-requires put-requires returns)

@@ -1,0 +1,28 @@
+use Rattle.steps.proofs.Moves.{table-short}
+use native.Mathlib.Omega.{arith}
+use borrow.Author.Needs.{needs}
+use Rattle.steps.proofs.step.load_to.Statement.{statement}
+use Rattle.steps.proofs.step.load_to.Tie as tie
+
+mul-x : tie.Need-mul-x
+mul-x c = search needs
+
+element-copy-out-x : tie.Need-element-copy-out-x
+element-copy-out-x c = search needs
+
+address-requires : tie.Need-address-requires
+address-requires c κs = let short = table-short (c .before .before .before .args .b) (c .before .before .before .args .trays .now) (c .before .before .before .args .results .now) 18446744073709551616 (omega arith) (omega arith) in omega arith
+
+load-from-requires : tie.Need-load-from-requires
+load-from-requires c κs = search needs
+
+put-requires : tie.Need-put-requires
+put-requires c κs = search needs
+
+returns : tie.Need-returns
+returns c = record { point = c .put .ensures .point; values = cc }
+
+pub load-to-spec : {M : Type 1} → statement M
+load-to-spec =
+    tie.close
+    (tie.spec mul-x element-copy-out-x address-requires load-from-requires put-requires returns)

@@ -1,0 +1,16 @@
+use Rattle.steps.proofs.Copying.{product-below}
+use borrow.Author.Needs.{needs}
+use Rattle.steps.proofs.step.product.Statement.{statement}
+use Rattle.steps.proofs.step.product.Tie as tie
+
+mul-result : tie.Need-mul-result
+mul-result c = record { fits = product-below 32 (search needs) (search needs) }
+
+cast-result : tie.Need-cast-result
+cast-result c = search needs
+
+returns : tie.Need-returns
+returns c = search needs
+
+pub product-spec : {M : Type 1} → statement M
+product-spec = tie.close (tie.spec mul-result cast-result returns)

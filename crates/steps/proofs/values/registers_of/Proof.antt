@@ -1,0 +1,57 @@
+use Rattle.steps.proofs.Copying.{Copied, copied-none, copied-more, copied-all}
+use borrow.Author.Needs.{needs}
+use native.Mathlib.Omega.{arith}
+use Prim.Native.Nat.{_-_}
+use lib.ListN.{length}
+use mathlib.Core.Path.{_≡_}
+use Rattle.steps.proofs.values.registers_of.Statement.{statement}
+use Rattle.steps.proofs.values.registers_of.Tie as tie
+
+abbrev Inv-loop : tie.InvT-loop
+Inv-loop values registers₀ i₀ registers i = Copied values registers 16 i
+
+abbrev μ-loop : tie.MeasureT-loop
+μ-loop values registers₀ i₀ registers i = 16 - i
+
+loop-holds : tie.Need-loop-holds Inv-loop μ-loop
+loop-holds c = copied-none _ _ 16 (search needs)
+
+mul-registers : tie.Need-mul-registers Inv-loop μ-loop
+mul-registers c = omega arith
+
+array-read-registers : tie.Need-array-read-registers Inv-loop μ-loop
+array-read-registers c = search needs
+
+mul-registers-2 : tie.Need-mul-registers-2 Inv-loop μ-loop
+mul-registers-2 c = omega arith
+
+array-write-registers : tie.Need-array-write-registers Inv-loop μ-loop
+array-write-registers c = let l = c .before .loop .inv .long in omega arith
+
+add-i : tie.Need-add-i Inv-loop μ-loop
+add-i c = omega arith
+
+loop-less : tie.Need-loop-less Inv-loop μ-loop
+loop-less c = omega arith
+
+loop-again : tie.Need-loop-again Inv-loop μ-loop
+loop-again c = copied-more (c .before .loop .inv) (c .loop-test .taken) (omega arith) (let l : length (c .before .before .args .t1) ≡ 18 = search needs in omega arith)
+
+returns : tie.Need-returns Inv-loop μ-loop
+returns c = copied-all (c .before .loop .inv) (c .loop-test .left)
+
+pub registers-of-spec : {M : Type 1} → statement M
+registers-of-spec =
+    tie.close
+    (tie.spec
+    Inv-loop
+    μ-loop
+    loop-holds
+    mul-registers
+    array-read-registers
+    mul-registers-2
+    array-write-registers
+    add-i
+    loop-less
+    loop-again
+    returns)
