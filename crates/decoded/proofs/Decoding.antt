@@ -15,16 +15,15 @@ use Rattle.model.specs.declared.text.Kind.{Kind}
 use Rattle.model.specs.declared.text.Kind.the-variants.{Plain}
 use Rattle.model.specs.declared.machine.Operand.the-variants.{Variable as variable, Number as number}
 use Rattle.model.specs.declared.machine.Instruction.{Instruction}
-use Rattle.model.specs.declared.machine.Instruction.the-variants.{Setc, Addw, Subw, Mulw, Divf, Load, Stor, Jump, Bltu, Bequ}
+use Rattle.model.specs.declared.machine.Instruction.the-variants.{Setc, Addw, Subw, Mulw, Divf, Jump}
 use Rattle.model.specs.declared.claims.Claim.the-variants.{Leas, Most, Strp}
-use Rattle.model.specs.declared.claims.Line.{Line}
 use Rattle.model.specs.declared.claims.Line.the-variants.{Refused as refusedLine, Claim as claimLine, Instruction as instructionLine}
 use Rattle.model.specs.declared.answers.Refusal.the-variants.{ListingLength}
 use Rattle.model.specs.Limits.{MAX}
 use Rattle.model.specs.Text.{valueIn}
 use Rattle.model.specs.Words.{fieldsOf, shaped}
 use Rattle.model.specs.Lines as Lines
-use Rattle.model.specs.Lines.{fieldAt, F1, F2, F3, F4, F5, F6, kindAt, inShape, inLimits, widthFrom, tableFrom, operandFrom, variableOrBlank, plusIn, minusIn}
+use Rattle.model.specs.Lines.{fieldAt, F1, F2, F3, F4, F5, F6, kindAt, inShape, inLimits, operandFrom, variableOrBlank, plusIn}
 use Rattle.model.proofs.Limits.{OperandLimited, line-limited}
 use Rattle.model.proofs.Tests.{every-below}
 use Rattle.decoded.specs.declared.rows.Row.{Row}

@@ -1,8 +1,8 @@
 -- The arrays of a point with a claim more, and what the tests of goals ask of arrays. Assumes nothing.
-use mathlib.Core.Path.{_≡_, refl, ap, sym, subst, _∙_}
+use mathlib.Core.Path.{_≡_, ap, sym, subst, _∙_}
 use mathlib.Core.Bool.{Bool, true}
 use mathlib.Core.List.{List}
-use Prim.Native.Nat.{ℕ, _+_, _*_, _≤_, _<_}
+use Prim.Native.Nat.{ℕ, _+_, _≤_, _<_}
 use native.Mathlib.Decide.{ℕ-discrete}
 use native.Mathlib.Omega.{arith}
 use lib.Dec.{leb, ltb}
@@ -11,15 +11,14 @@ use borrow.Author.Tests.{leb-true}
 use Rattle.model.specs.declared.claims.Range.{Range}
 use Rattle.model.specs.declared.claims.Stripe.{Stripe}
 use Rattle.model.specs.Limits.{registers, variables, MAX, greatestBound, greatestStripes}
-use Rattle.model.specs.Facts.{registerRange, sizeRange, unclaimedRange, unclaimed, lo, hi, nonEmpty}
+use Rattle.model.specs.Facts.{registerRange, sizeRange, unclaimedRange, lo, hi, nonEmpty}
 use Rattle.model.proofs.Tests.{cond-cases, every-below}
 use Rattle.model.proofs.Limits.{StripeLimited}
-use Rattle.goals.specs.Sizes.{stripesAlong, Numbers}
 use Rattle.goals.specs.Ends.{SizedEnds}
 use Rattle.goals.specs.Rows.{SizedRows, stripeAt, withRow}
 use Rattle.goals.specs.Laid.{Laid, Sized}
 use Rattle.goals.proofs.Written.{set-numbers, row-numbers, stripe-there, stripe-other}
-use Rattle.domain.specs.Known.{rangesOf, stripesOf, known, Ends, Bytes, Standing, AtPoint, AlongEdge}
+use Rattle.domain.specs.Known.{rangesOf, known, Ends, Bytes, Standing, AtPoint, AlongEdge}
 use Rattle.domain.proofs.Held.{low-held, high-held, rows-held}
 
 -- no unclaimed range reaches above a word
@@ -32,14 +31,6 @@ ends-even low high h = h .lows .long ∙ sym (h .highs .long)
 
 pub standing-sized : (rows : List ℕ) (n : ℕ) → Standing rows n → SizedRows rows
 standing-sized rows n h = record { long = h .parts .long; most = λ i l. omega (arith, h .parts .most i l) }
-
--- a point with no claim yet
-pub point-none : (low high rows : List ℕ) → Ends low high → Numbers (stripesAlong * 6) greatestBound rows → AtPoint low high rows 0
-point-none low high rows ends parts = record { ends = ends; stripes = record { few = omega arith; parts = parts; bytes = λ i h. absurd (omega arith) } }
-
-pub known-none : (low high rows : List ℕ) → rangesOf low high ≡ unclaimed .ranges → known low high rows 0 ≡ unclaimed
-unfolding stripesOf
-known-none low high rows e = rw e refl
 
 -- one more claim
 module _ (low high rows : List ℕ) (n : ℕ) (at : AtPoint low high rows n) where

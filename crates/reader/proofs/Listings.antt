@@ -16,7 +16,6 @@ use Rattle.model.specs.declared.answers.Refusal.the-variants.{ListingLength, La
 use Rattle.model.specs.Limits.{lineBytes}
 use Rattle.model.specs.Answers.{_andThen_}
 use Rattle.model.specs.Listing.{Point, endsWithInstruction, fewPoints, allTargetsExist, endsInPlace, startsNonEmpty, wholeJudged, Reading, going, turned, readTo, readAs, unreadable, listingOr, listingFrom, goodLength, listingOf}
-use Rattle.model.specs.Listing as model
 use Rattle.model.proofs.Tests.{and-left, and-right}
 use Rattle.model.proofs.Reading.{both-accepted, test-passed}
 use Rattle.reader.specs.declared.scan.Scan.{Scan}

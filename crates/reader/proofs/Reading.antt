@@ -107,14 +107,14 @@ whole (refusedLine r) s e h = absurd (h r (sym e))
 whole (claimLine c) s e h = refl
 whole (instructionLine i) s e h = refl
 
-pub leas-held : (v : ℕ) (r : Refusal) → leasSort v ≡ refusedSort r → ⊥
-leas-held v r e = let z : _≡_ {A = ℕ} 0 1 = cc in absurd (omega arith)
+pub leas-accepted : (v : ℕ) (r : Refusal) → leasSort v ≡ refusedSort r → ⊥
+leas-accepted v r e = let z : _≡_ {A = ℕ} 0 1 = cc in absurd (omega arith)
 
-pub most-held : (v : ℕ) (r : Refusal) → mostSort v ≡ refusedSort r → ⊥
-most-held v r e = let z : _≡_ {A = ℕ} 0 1 = cc in absurd (omega arith)
+pub most-accepted : (v : ℕ) (r : Refusal) → mostSort v ≡ refusedSort r → ⊥
+most-accepted v r e = let z : _≡_ {A = ℕ} 0 1 = cc in absurd (omega arith)
 
-pub strp-held : (r : Refusal) → strpSort ≡ refusedSort r → ⊥
-strp-held r e = let z : _≡_ {A = ℕ} 0 1 = cc in absurd (omega arith)
+pub strp-accepted : (r : Refusal) → strpSort ≡ refusedSort r → ⊥
+strp-accepted r e = let z : _≡_ {A = ℕ} 0 1 = cc in absurd (omega arith)
 
-pub instruction-held : (r : Refusal) → instructionSort ≡ refusedSort r → ⊥
-instruction-held r e = let z : _≡_ {A = ℕ} 0 1 = cc in absurd (omega arith)
+pub instruction-accepted : (r : Refusal) → instructionSort ≡ refusedSort r → ⊥
+instruction-accepted r e = let z : _≡_ {A = ℕ} 0 1 = cc in absurd (omega arith)

@@ -20,7 +20,6 @@ use Rattle.model.specs.declared.answers.Refusal.the-variants.{ClaimOrder}
 use Rattle.model.specs.Listing.{Point, firstLine, pointAt, stripesAmong, inOrder, mayFollowAll, Reading, going, turned, afterLine, readTo}
 use Rattle.model.proofs.Tests.{and-right, cond-cases}
 use Rattle.reader.specs.Scan.{lineRead, sortOf, progressOf, afterScan, coded, noPoint, slotOf, pointFrom, tableTo, claimsIn, Within}
-use Rattle.reader.specs.declared.scan.Point as code
 use Rattle.reader.proofs.Scanning.{stripes-cons, stripes-snoc, after-same}
 
 abbrev pub noModelPoint : Point

@@ -9,7 +9,6 @@ use Prim.Native.Nat.{ℕ, _-_, _≤_}
 use native.Mathlib.Numerals.{add-one}
 use native.Mathlib.Omega.{arith}
 use lib.ListN.{length}
-use Rattle.model.specs.Limits.{variables}
 use Rattle.model.specs.Lists.{everyBelow}
 use Rattle.model.specs.Facts.{lo, hi, nonEmpty}
 use Rattle.domain.proofs.Held.{low-held, high-held}

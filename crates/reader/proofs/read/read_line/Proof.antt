@@ -1,5 +1,5 @@
 use mathlib.Core.Path.{sym, _∙_}
-use Rattle.reader.proofs.Reading.{refused-whole, whole, leas-held, most-held, strp-held, instruction-held}
+use Rattle.reader.proofs.Reading.{refused-whole, whole, leas-accepted, most-accepted, strp-accepted, instruction-accepted}
 use borrow.Author.Needs.{needs}
 use Rattle.reader.proofs.read.read_line.Statement.{statement}
 use Rattle.reader.proofs.read.read_line.Tie as tie
@@ -38,16 +38,16 @@ returns : tie.Need-returns
 returns c = refused-whole _ _ (sym (c .before .before .before .before .read-bytes .ensures .sort) ∙ c .before .sort .given .1)
 
 returns-2 : tie.Need-returns-2
-returns-2 c = c .line-from .ensures ∙ c .before .before .before .before .read-bytes .ensures .row ∙ whole _ _ (sym (c .before .before .before .before .read-bytes .ensures .sort) ∙ c .before .enum-told .given .1) (leas-held _)
+returns-2 c = c .line-from .ensures ∙ c .before .before .before .before .read-bytes .ensures .row ∙ whole _ _ (sym (c .before .before .before .before .read-bytes .ensures .sort) ∙ c .before .enum-told .given .1) (leas-accepted _)
 
 returns-3 : tie.Need-returns-3
-returns-3 c = c .line-from2 .ensures ∙ c .before .before .before .before .read-bytes .ensures .row ∙ whole _ _ (sym (c .before .before .before .before .read-bytes .ensures .sort) ∙ c .before .enum-told2 .given .1) (most-held _)
+returns-3 c = c .line-from2 .ensures ∙ c .before .before .before .before .read-bytes .ensures .row ∙ whole _ _ (sym (c .before .before .before .before .read-bytes .ensures .sort) ∙ c .before .enum-told2 .given .1) (most-accepted _)
 
 returns-4 : tie.Need-returns-4
-returns-4 c = c .line-from3 .ensures ∙ c .before .before .before .before .read-bytes .ensures .row ∙ whole _ _ (sym (c .before .before .before .before .read-bytes .ensures .sort) ∙ c .before .enum-told3 .given .1) (strp-held)
+returns-4 c = c .line-from3 .ensures ∙ c .before .before .before .before .read-bytes .ensures .row ∙ whole _ _ (sym (c .before .before .before .before .read-bytes .ensures .sort) ∙ c .before .enum-told3 .given .1) (strp-accepted)
 
 returns-5 : tie.Need-returns-5
-returns-5 c = c .line-from4 .ensures ∙ c .before .before .before .before .read-bytes .ensures .row ∙ whole _ _ (sym (c .before .before .before .before .read-bytes .ensures .sort) ∙ c .before .enum-told4 .given .1) (instruction-held)
+returns-5 c = c .line-from4 .ensures ∙ c .before .before .before .before .read-bytes .ensures .row ∙ whole _ _ (sym (c .before .before .before .before .read-bytes .ensures .sort) ∙ c .before .enum-told4 .given .1) (instruction-accepted)
 
 pub read-line-spec : {M : Type 1} → statement M
 read-line-spec =
