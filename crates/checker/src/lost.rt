@@ -75,7 +75,7 @@ fn lost_among<'a>(
 }
 
 // The judgement of an edge: the claims of its target, on n lines from line `first` on, counted from 0.
-pub fn edge_judged<'a>(
+pub(crate) fn edge_judged<'a>(
     listing: &'a [u8],
     rows: &'a [u64],
     lines: usize,

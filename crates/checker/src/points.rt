@@ -307,7 +307,7 @@ fn point_owed<'a>(
 }
 
 // 12 to 14 over the points of a listing, in order.
-pub fn points_judged<'a>(
+pub(crate) fn points_judged<'a>(
     listing: &'a [u8],
     rows: &'a [u64],
     at: &'a [u16],

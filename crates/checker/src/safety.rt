@@ -169,7 +169,7 @@ fn access_judged<'a>(
 }
 
 // The judgement of a point's own safety.
-pub fn safety_judged<'a>(
+pub(crate) fn safety_judged<'a>(
     line: usize,
     low: &'a [u64; 18],
     high: &'a [u64; 18],

@@ -44,7 +44,7 @@ pub struct Changes {
 }
 
 // The range of a variable.
-pub fn range_at<'a>(low: &'a [u64; 18], high: &'a [u64; 18], v: usize) -> Range
+pub(crate) fn range_at<'a>(low: &'a [u64; 18], high: &'a [u64; 18], v: usize) -> Range
     requires { ⌜ Ends (now low) (now high) ⌝ }
     requires { ⌜ v < variables ⌝ }
     ensures { λ r. ⌜ (r ≡ rangeOf (rangesOf (now (low .entry)) (now (high .entry))) v) × Word r ⌝ }
@@ -56,7 +56,7 @@ pub fn range_at<'a>(low: &'a [u64; 18], high: &'a [u64; 18], v: usize) -> Range
 }
 
 // The range of an operand.
-pub fn operand_range<'a>(low: &'a [u64; 18], high: &'a [u64; 18], o: Operand) -> Range
+pub(crate) fn operand_range<'a>(low: &'a [u64; 18], high: &'a [u64; 18], o: Operand) -> Range
     requires { ⌜ Ends (now low) (now high) ⌝ }
     requires { ⌜ OperandLimited o ⌝ }
     ensures { λ r. ⌜ (r ≡ operandRange (rangesOf (now (low .entry)) (now (high .entry))) o) × Word r ⌝ }
@@ -68,7 +68,7 @@ pub fn operand_range<'a>(low: &'a [u64; 18], high: &'a [u64; 18], o: Operand) ->
 }
 
 // Whether no sum of the two ranges wraps.
-pub fn sum_fits(r: Range, q: Range) -> bool
+pub(crate) fn sum_fits(r: Range, q: Range) -> bool
     requires { ⌜ Word r × Word q ⌝ }
     ensures { λ b. ⌜ b ≡ sumFits r q ⌝ }
 {
@@ -91,7 +91,7 @@ fn sum(r: Range, q: Range) -> Range
 }
 
 // Whether no difference of the two ranges wraps.
-pub fn difference_fits(r: Range, q: Range) -> bool
+pub(crate) fn difference_fits(r: Range, q: Range) -> bool
     ensures { λ b. ⌜ b ≡ differenceFits r q ⌝ }
 {
     q.hi <= r.lo
@@ -123,7 +123,7 @@ fn difference(r: Range, q: Range) -> Range
 }
 
 // Whether no product of the two ranges wraps.
-pub fn product_fits(r: Range, q: Range) -> bool
+pub(crate) fn product_fits(r: Range, q: Range) -> bool
     requires { ⌜ Word r × Word q ⌝ }
     ensures { λ b. ⌜ b ≡ productFits r q ⌝ }
 {
@@ -417,7 +417,7 @@ fn matched_ranges<'a>(
 }
 
 // The changes along an edge of an instruction.
-pub fn changes_along<'a>(
+pub(crate) fn changes_along<'a>(
     e: Edge,
     i: Instruction,
     low: &'a [u64; 18],
@@ -451,7 +451,7 @@ pub fn changes_along<'a>(
 }
 
 // Writes the ranges with their changes made.
-pub fn write_ranges<'a>(
+pub(crate) fn write_ranges<'a>(
     c: Changes,
     low: &'a [u64; 18],
     high: &'a [u64; 18],

@@ -399,7 +399,12 @@ fn matched_stripes(e: Edge, i: usize, o: Operand) -> Plan
 }
 
 // The stripes along an edge of an instruction, with the ranges before the step.
-pub fn plan_along<'a>(e: Edge, i: Instruction, low: &'a [u64; 18], high: &'a [u64; 18]) -> Plan
+pub(crate) fn plan_along<'a>(
+    e: Edge,
+    i: Instruction,
+    low: &'a [u64; 18],
+    high: &'a [u64; 18],
+) -> Plan
     requires { ⌜ Ends (now low) (now high) ⌝ }
     requires { ⌜ Limited i ⌝ }
     ensures { λ p. ⌜ Does p (λ (ss : List Stripe). stripesAlong e i (rangesOf (now (low .entry)) (now (high .entry))) ss) ⌝ }
@@ -519,7 +524,12 @@ fn put_all<'a>(
 }
 
 // Carries the plan out on the first n rows, and answers how many new ones there are.
-pub fn carry_out<'a>(p: Plan, rows: &'a [u64; 60], n: usize, new_rows: &'a mut [u64; 60]) -> usize
+pub(crate) fn carry_out<'a>(
+    p: Plan,
+    rows: &'a [u64; 60],
+    n: usize,
+    new_rows: &'a mut [u64; 60],
+) -> usize
     requires { ⌜ ShiftLimited (p .kept) × AddedLimited (p .added) ⌝ }
     requires { ⌜ Standing (now rows) n ⌝ }
     requires { ⌜ SizedRows (now «new_rows») ⌝ }

@@ -6,7 +6,7 @@ ghost use Rattle.model.specs.Limits.{MAX};
 ghost use Rattle.goals.specs.Ends.{SizedEnds};
 
 // The end of a variable; of the blank variable, 0.
-pub fn end_of(ends: &[u64; 18], v: usize) -> u64
+pub(crate) fn end_of(ends: &[u64; 18], v: usize) -> u64
     requires { ⌜ SizedEnds (now ends) ⌝ }
     ensures { λ r. ⌜ (r ≡ getD (now (ends .entry)) v 0) × (r ≤ MAX) ⌝ }
 {

@@ -96,7 +96,7 @@ fn add_row<'a>(rows: &'a [u64; 60], i: usize, links: &'a mut [u64; 40], k: usize
 }
 
 // Gathers the links among the first count rows, and answers how many it keeps.
-pub fn gather<'a>(rows: &'a [u64; 60], count: usize, links: &'a mut [u64; 40]) -> usize
+pub(crate) fn gather<'a>(rows: &'a [u64; 60], count: usize, links: &'a mut [u64; 40]) -> usize
     requires { ⌜ SizedRows (now rows) ⌝ }
     requires { ⌜ SizedLinks (now links) ⌝ }
     requires { ⌜ count ≤ stripesAlong ⌝ }
@@ -112,7 +112,7 @@ pub fn gather<'a>(rows: &'a [u64; 60], count: usize, links: &'a mut [u64; 40]) -
 }
 
 // Whether the i-th link replaces the goal's y or z.
-pub fn touches(links: &[u64; 40], i: usize, y: u64, z: u64) -> bool
+pub(crate) fn touches(links: &[u64; 40], i: usize, y: u64, z: u64) -> bool
     requires { ⌜ i < stripesAlong ⌝ }
     ensures { λ r. ⌜ r ≡ Goal.replaces (linkAt (now (links .entry)) i) y z ⌝ }
 {

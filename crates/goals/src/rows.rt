@@ -53,7 +53,7 @@ fn covers(rows: &[u64; 60], i: usize, x: u64, a: u8, y: u64, z: u64, plus: u64, 
 }
 
 // Whether one of the first count rows stands for the goal.
-pub fn stands(
+pub(crate) fn stands(
     rows: &[u64; 60],
     count: usize,
     x: u64,

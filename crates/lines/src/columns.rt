@@ -132,7 +132,7 @@ fn is_blank_four(l: &[u8], at: usize, n: usize) -> bool
 }
 
 // The field that the n columns from column at on hold.
-pub fn read_field(l: &[u8], at: usize, n: usize) -> Field
+pub(crate) fn read_field(l: &[u8], at: usize, n: usize) -> Field
     requires { ⌜ (at + n ≤ length (now l)) × (n ≤ 15) ⌝ }
     ensures { λ r. ⌜ r ≡ fieldOf (now (l .entry)) at n ⌝ }
 {

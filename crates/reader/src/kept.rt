@@ -53,7 +53,7 @@ pub(crate) fn note(at: &mut [u16], p: Progress, k: usize, l: Sort)
 }
 
 // The line in place p.
-pub fn line_of(at: &[u16], p: usize) -> usize
+pub(crate) fn line_of(at: &[u16], p: usize) -> usize
     requires { ⌜ (length (now at) ≡ 1026) × (p ≤ 512) ⌝ }
     ensures { λ r. ⌜ r ≡ getD (now (at .entry)) (p * 2) 0 ⌝ }
 {

@@ -91,7 +91,7 @@ fn all_hold<'a>(values: &'a [u32; 18], stripes: &'a [u64; 60], n: usize) -> bool
 }
 
 // Whether the values meet what the arrays of a point know.
-pub fn meets<'a>(
+pub(crate) fn meets<'a>(
     values: &'a [u32; 18],
     low: &'a [u64; 18],
     high: &'a [u64; 18],
