@@ -23,7 +23,7 @@ trays-kept ps n m s k r w =
 
 -- by either contract the outcome is the model's, and so are the results
 same-outcome : (r : Ran) (a : Answer) (rs : List ℕ) → Contract r a rs → (r .outcome ≡ outcomeIn a) × (r .results ≡ rs)
-same-outcome r (byValue o) rs h = (sym (h .0), sym (h .1))
+same-outcome r (byValue o) rs h = (sym (h .outcome), sym (h .results))
 same-outcome r (inPlace e s) rs h = ((λ i. record { report = sym (h .report) i; state = sym (h .state) i; steps = sym (h .steps) i }), sym (h .results))
 
 abbrev calls : List RunMade → List Call

@@ -29,7 +29,7 @@ use Rattle.model.proofs.Safety.{good-start}
 use Rattle.reader.specs.declared.listing.Listing.{Listing}
 use Rattle.checker.specs.Judged.{Judged}
 use Rattle.steps.specs.Stepped.{config, ValuesOver, Steppable, Stepped}
-use Rattle.runner.specs.Runs.{state, outcome, Held, stateJudged}
+use Rattle.runner.specs.Runs.{state, outcome, Held, stateJudged, RunByValue}
 
 -- a listing that the code judged to pass
 pub passed : (s : List ℕ) (l : Listing) (rows places : List ℕ) → Judged s l rows places → l .judgement ≡ Accepted → Held s rows places (l .count) × (listingJudged (listingOf s) ≡ Accepted)
@@ -149,11 +149,11 @@ module _ (l : List ℕ) (s : State) (ts rs : List ℕ) (b : ℕ) where
   run-by j e = ap (λ (x : Judgement). ranFrom x (pointsOf (listingOf l)) s ts rs b) e
 
   -- turned back by 1 to 14
-  pub listing-refused : (r : Refusal) → listingJudged (listingOf l) ≡ refused r → (outcome (notRun r) s 0 ≡ run l s ts rs b .outcome) × (rs ≡ run l s ts rs b .results)
+  pub listing-refused : (r : Refusal) → listingJudged (listingOf l) ≡ refused r → RunByValue (run l s ts rs b) (outcome (notRun r) s 0) rs
   unfolding runJudged
   listing-refused r e =
       let q = run-by (refused r) (rw e) in
-      (sym (ap (λ (x : Ran). x .outcome) q), sym (ap (λ (x : Ran). x .results) q))
+      record { outcome = sym (ap (λ (x : Ran). x .outcome) q); results = sym (ap (λ (x : Ran). x .results) q) }
 
   module _ (accepted : listingJudged (listingOf l) ≡ Accepted) where
     judged-as : runJudged l s (length ts) (length rs) ≡ stateJudged (pointsOf (listingOf l)) s (length ts) (length rs)
@@ -161,15 +161,15 @@ module _ (l : List ℕ) (s : State) (ts rs : List ℕ) (b : ℕ) where
     judged-as = rw accepted
 
     -- turned back by 15 to 17
-    pub state-refused : (r : Refusal) → stateJudged (pointsOf (listingOf l)) s (length ts) (length rs) ≡ refused r → (outcome (notRun r) s 0 ≡ run l s ts rs b .outcome) × (rs ≡ run l s ts rs b .results)
+    pub state-refused : (r : Refusal) → stateJudged (pointsOf (listingOf l)) s (length ts) (length rs) ≡ refused r → RunByValue (run l s ts rs b) (outcome (notRun r) s 0) rs
     state-refused r e =
         let q = run-by (refused r) (judged-as ∙ e) in
-        (sym (ap (λ (x : Ran). x .outcome) q), sym (ap (λ (x : Ran). x .results) q))
+        record { outcome = sym (ap (λ (x : Ran). x .outcome) q); results = sym (ap (λ (x : Ran). x .results) q) }
 
     -- the run as it ended
     pub ran-to : stateJudged (pointsOf (listingOf l)) s (length ts) (length rs) ≡ Accepted → (c₀ : Config) → c₀ ≡ configOf s ts rs → (o : Outcome) (rs′ : List ℕ)
         → finished (pointsOf (listingOf l)) (runFor (pointsOf (listingOf l)) b c₀) ≡ record { outcome = o; trays = ts; results = rs′ }
-        → (o ≡ run l s ts rs b .outcome) × (rs′ ≡ run l s ts rs b .results)
+        → RunByValue (run l s ts rs b) o rs′
     ran-to e c₀ same o rs′ f =
         let q = run-by Accepted (judged-as ∙ e) ∙ ap (λ (c : Config). finished (pointsOf (listingOf l)) (runFor (pointsOf (listingOf l)) b c)) (sym same) ∙ f in
-        (sym (ap (λ (x : Ran). x .outcome) q), sym (ap (λ (x : Ran). x .results) q))
+        record { outcome = sym (ap (λ (x : Ran). x .outcome) q); results = sym (ap (λ (x : Ran). x .results) q) }

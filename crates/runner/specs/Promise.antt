@@ -14,7 +14,7 @@ use Rattle.model.specs.Check.{check}
 use Rattle.model.specs.Run.{meetsClaims, Ran}
 use Rattle.model.specs.Safety.{Call, Lends, RunsWell, ranOn}
 use Rattle.runner.specs.declared.Ending.{Ending}
-use Rattle.runner.specs.Runs.{RunInPlace}
+use Rattle.runner.specs.Runs.{RunByValue, RunInPlace}
 
 -- what an entry hands back: `run` an outcome, `run_in_place` an ending and the state behind the reference
 pub data Answer : Type 0 where
@@ -42,7 +42,7 @@ stateAfter r = outcomeIn (r .answer) .state
 
 -- what the contract of each entry states of an answer and the results
 abbrev pub Contract : Ran → Answer → List ℕ → Type 0
-Contract r (byValue o) rs = (o ≡ r .outcome) × (rs ≡ r .results)
+Contract r (byValue o) rs = RunByValue r o rs
 Contract r (inPlace e s) rs = RunInPlace r e s rs
 
 -- the run was made from the state s: it lent tables of n and m bytes, and the contract of its entry holds

@@ -41,6 +41,11 @@ pub record Gathered (s : List ℕ) (lines n : ℕ) (code : List ℕ) : Type 0 wh
 abbrev pub stateJudged : List Point → State → ℕ → ℕ → Judgement
 stateJudged ps s n m = tablesFit n m andThen pointExists ps (s .point) andThen claimsMet ps s n m
 
+-- a run hands back the outcome of the model's run, and the results hold its bytes
+pub record RunByValue (r : Ran) (o : Outcome) (rs : List ℕ) : Type 0 where
+  pub outcome : o ≡ r .outcome
+  pub results : rs ≡ r .results
+
 -- a run in place hands back what a run does: its report and its steps, the state behind the reference, and the results
 pub record RunInPlace (r : Ran) (e : Ending) (s : State) (rs : List ℕ) : Type 0 where
   pub report : e .report ≡ r .outcome .report

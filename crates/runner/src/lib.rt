@@ -14,7 +14,8 @@ use reader::kept::point_at;
 use reader::kept::row_of;
 use reader::listing::first_of;
 use reader::scan::Point;
-use steps::step::is_stop;
+use steps::fetch::instruction_at;
+use steps::fetch::is_stop;
 use steps::step::step;
 use steps::values::registers_of;
 use steps::values::values_of;
@@ -32,7 +33,7 @@ ghost use Rattle.model.specs.Run as Run;
 ghost use Rattle.reader.specs.Scan.{claimsIn};
 ghost use Rattle.reader.specs.Kept.{Kept, Filled};
 ghost use Rattle.reader.specs.Listing.{firstOf, PointLines};
-ghost use Rattle.runner.specs.Runs.{state, outcome, Held, Gathered, stateJudged, RunInPlace};
+ghost use Rattle.runner.specs.Runs.{state, outcome, Held, Gathered, stateJudged, RunByValue, RunInPlace};
 
 // What a run in place hands back besides the state.
 pub struct Ending {
@@ -149,7 +150,7 @@ fn run_from<'a>(
     requires { ⌜ listingJudged (listingOf (now listing)) ≡ Accepted ⌝ }
     requires { ⌜ stateJudged (pointsOf (listingOf (now listing))) (state start registers) (length (now trays)) (length (now results)) ≡ Accepted ⌝ }
     requires { ⌜ count * 8 ≤ length (now code) ⌝ }
-    ensures { λ r. ⌜ (r ≡ Run.run (now (listing .entry)) (state start registers) (now (trays .entry)) (now (results .entry)) budget .outcome) × (now (results .exit) ≡ Run.run (now (listing .entry)) (state start registers) (now (trays .entry)) (now (results .entry)) budget .results) ⌝ }
+    ensures { λ r. ⌜ RunByValue (Run.run (now (listing .entry)) (state start registers) (now (trays .entry)) (now (results .entry)) budget) r (now (results .exit)) ⌝ }
 {
     gather(listing, rows, at, listing.len() / 40, count, code);
     let mut values = values_of(registers, trays.len() as u32, results.len() as u32);
@@ -162,7 +163,8 @@ fn run_from<'a>(
         if made == budget {
             return ended(Report::Paused, point, values, made);
         }
-        point = step(code, point, &mut values, trays, results);
+        let instruction = instruction_at(code, point);
+        point = step(instruction, point, &mut values, trays, results);
         made += 1;
     }
 }
@@ -182,7 +184,7 @@ fn run_passed<'a>(
 ) -> Outcome
     requires { ⌜ Held (now listing) (now rows) (now at) count ⌝ }
     requires { ⌜ listingJudged (listingOf (now listing)) ≡ Accepted ⌝ }
-    ensures { λ r. ⌜ (r ≡ Run.run (now (listing .entry)) (state start registers) (now (trays .entry)) (now (results .entry)) budget .outcome) × (now (results .exit) ≡ Run.run (now (listing .entry)) (state start registers) (now (trays .entry)) (now (results .entry)) budget .results) ⌝ }
+    ensures { λ r. ⌜ RunByValue (Run.run (now (listing .entry)) (state start registers) (now (trays .entry)) (now (results .entry)) budget) r (now (results .exit)) ⌝ }
 {
     let n = trays.len();
     let m = results.len();
@@ -241,7 +243,7 @@ fn run_in(
     budget: u32,
 ) -> Outcome
     requires { ⌜ (length (now listing) ≤ greatestListing → length (now listing) / lineBytes * 8 ≤ length (now rows)) ⌝ }
-    ensures { λ r. ⌜ (r ≡ Run.run (now (listing .entry)) (state start registers) (now (trays .entry)) (now (results .entry)) budget .outcome) × (now (results .exit) ≡ Run.run (now (listing .entry)) (state start registers) (now (trays .entry)) (now (results .entry)) budget .results) ⌝ }
+    ensures { λ r. ⌜ RunByValue (Run.run (now (listing .entry)) (state start registers) (now (trays .entry)) (now (results .entry)) budget) r (now (results .exit)) ⌝ }
 {
     let mut at = [0u16; 1026];
     let l = judged_listing(listing, rows, &mut at);
@@ -269,7 +271,7 @@ fn run_in(
 // A run that is turned back hands back the state as it was with 0 steps, and leaves every byte of the results.
 // A short listing has few rows, so that its call does not pay for the longest.
 pub fn run(listing: &[u8], state: State, trays: &[u8], results: &mut [u8], budget: u32) -> Outcome
-    ensures { λ r. ⌜ (r ≡ Run.run (now (listing .entry)) state (now (trays .entry)) (now (results .entry)) budget .outcome) × (now (results .exit) ≡ Run.run (now (listing .entry)) state (now (trays .entry)) (now (results .entry)) budget .results) ⌝ }
+    ensures { λ r. ⌜ RunByValue (Run.run (now (listing .entry)) state (now (trays .entry)) (now (results .entry)) budget) r (now (results .exit)) ⌝ }
 {
     let registers = state.registers;
     if listing.len() <= 2560 {

@@ -1,4 +1,5 @@
-// The machine: one step of a listing's rows, in place.
+// The machine: the instruction at a point, from the rows of a run, and its step, in place.
 mod bytes;
+pub mod fetch;
 pub mod step;
 pub mod values;

@@ -3,24 +3,7 @@ use crate::bytes::load;
 use crate::bytes::store;
 use crate::values::operand_value;
 use crate::values::put;
-use decoded::decode::operand_at;
-use decoded::decode::table_from;
-use decoded::decode::width_from;
-use decoded::decode::word;
-use decoded::kinds::ADDW;
-use decoded::kinds::BLTU;
-use decoded::kinds::COPY;
-use decoded::kinds::DIVF;
-use decoded::kinds::JUMP;
-use decoded::kinds::LOAD;
-use decoded::kinds::MULW;
-use decoded::kinds::SETC;
-use decoded::kinds::STOP;
-use decoded::kinds::STOR;
-use decoded::kinds::SUBW;
-use decoded::rows::index_at;
-use decoded::rows::kind_at;
-use decoded::rows::number_at;
+use model::machine::Instruction;
 use model::machine::Operand;
 use model::machine::Table;
 use model::machine::Width;
@@ -32,10 +15,7 @@ ghost use lib.Dec.{ltb, eqb};
 ghost use Rattle.model.specs.Facts.{valueAt};
 ghost use Rattle.model.specs.Machine as Machine;
 ghost use Rattle.model.specs.Machine.{operandAt, bytesOf, readBytes, writeBytes, sum};
-ghost use Rattle.model.specs.Run.{isStop};
 ghost use Rattle.model.proofs.Limits.{OperandLimited};
-ghost use Rattle.decoded.specs.Rows.{rowAt};
-ghost use Rattle.decoded.specs.Decoded.{branchFrom, accessFrom, arithmeticFrom, instructionFrom};
 ghost use Rattle.steps.specs.Stepped.{bytesIn, Written, Steppable, Stepped};
 
 // COPY: the value of a variable, written.
@@ -195,168 +175,36 @@ fn if_equal(values: &[u32; 18], point: usize, i: usize, t: usize, o: Operand) ->
     if x == y { t } else { point + 1 }
 }
 
-// A step from JUMP on: it leads to another point and changes nothing.
-fn branch(rows: &[u64], point: usize, values: &[u32; 18], trays: &[u8], results: &[u8]) -> usize
-    requires { ⌜ point * 8 + 8 ≤ length (now rows) ⌝ }
-    requires { ⌜ Steppable (branchFrom (rowAt (now rows) point)) point (now values) (now trays) (now results) ⌝ }
-    ensures { λ r. ⌜ Stepped (branchFrom (rowAt (now (rows .entry)) point)) (now (trays .entry)) point (now (values .entry)) (now (results .entry)) r (now (values .entry)) (now (results .entry)) ⌝ }
-{
-    let kind = kind_at(rows, point);
-    if kind == JUMP {
-        return index_at(rows, point, 4);
-    }
-    if kind == BLTU {
-        return if_less(
-            values,
-            point,
-            index_at(rows, point, 2),
-            index_at(rows, point, 4),
-            operand_at(rows, point),
-        );
-    }
-    if_equal(
-        values,
-        point,
-        index_at(rows, point, 2),
-        index_at(rows, point, 4),
-        operand_at(rows, point),
-    )
-}
-
-// A step from LOAD on.
-fn access(
-    rows: &[u64],
-    point: usize,
-    values: &mut [u32; 18],
-    trays: &[u8],
-    results: &mut [u8],
-) -> usize
-    requires { ⌜ point * 8 + 8 ≤ length (now rows) ⌝ }
-    requires { ⌜ Steppable (accessFrom (rowAt (now rows) point)) point (now values) (now trays) (now results) ⌝ }
-    ensures { λ r. ⌜ Stepped (accessFrom (rowAt (now (rows .entry)) point)) (now (trays .entry)) point (now (values .entry)) (now (results .entry)) r (now (values .exit)) (now (results .exit)) ⌝ }
-{
-    let kind = kind_at(rows, point);
-    if kind == LOAD {
-        return load_to(
-            values,
-            point,
-            trays,
-            results,
-            index_at(rows, point, 1),
-            width_from(number_at(rows, point, 2)),
-            table_from(number_at(rows, point, 3)),
-            index_at(rows, point, 4),
-            index_at(rows, point, 5),
-            index_at(rows, point, 6),
-        );
-    }
-    if kind == STOR {
-        return store_from(
-            values,
-            point,
-            results,
-            index_at(rows, point, 1),
-            width_from(number_at(rows, point, 2)),
-            index_at(rows, point, 4),
-            index_at(rows, point, 5),
-            index_at(rows, point, 6),
-        );
-    }
-    branch(rows, point, values, trays, results)
-}
-
-// A step from ADDW on.
-fn arithmetic(
-    rows: &[u64],
-    point: usize,
-    values: &mut [u32; 18],
-    trays: &[u8],
-    results: &mut [u8],
-) -> usize
-    requires { ⌜ point * 8 + 8 ≤ length (now rows) ⌝ }
-    requires { ⌜ Steppable (arithmeticFrom (rowAt (now rows) point)) point (now values) (now trays) (now results) ⌝ }
-    ensures { λ r. ⌜ Stepped (arithmeticFrom (rowAt (now (rows .entry)) point)) (now (trays .entry)) point (now (values .entry)) (now (results .entry)) r (now (values .exit)) (now (results .exit)) ⌝ }
-{
-    let kind = kind_at(rows, point);
-    if kind == ADDW {
-        return add(
-            values,
-            point,
-            index_at(rows, point, 1),
-            index_at(rows, point, 2),
-            operand_at(rows, point),
-        );
-    }
-    if kind == SUBW {
-        return subtract(
-            values,
-            point,
-            index_at(rows, point, 1),
-            index_at(rows, point, 2),
-            operand_at(rows, point),
-        );
-    }
-    if kind == MULW {
-        return multiply(
-            values,
-            point,
-            index_at(rows, point, 1),
-            index_at(rows, point, 2),
-            operand_at(rows, point),
-        );
-    }
-    if kind == DIVF {
-        return divide(
-            values,
-            point,
-            index_at(rows, point, 1),
-            index_at(rows, point, 2),
-            operand_at(rows, point),
-        );
-    }
-    access(rows, point, values, trays, results)
-}
-
 // One step: the point that it leads to. The values and the results are changed in place.
-// Each number of the row is read in the arm that needs it, so that a step reads no more than its own.
 pub fn step(
-    rows: &[u64],
+    instruction: Instruction,
     point: usize,
     values: &mut [u32; 18],
     trays: &[u8],
     results: &mut [u8],
 ) -> usize
-    requires { ⌜ point * 8 + 8 ≤ length (now rows) ⌝ }
-    requires { ⌜ Steppable (instructionFrom (rowAt (now rows) point)) point (now values) (now trays) (now results) ⌝ }
-    ensures { λ r. ⌜ Stepped (instructionFrom (rowAt (now (rows .entry)) point)) (now (trays .entry)) point (now (values .entry)) (now (results .entry)) r (now (values .exit)) (now (results .exit)) ⌝ }
+    requires { ⌜ Steppable instruction point (now values) (now trays) (now results) ⌝ }
+    ensures { λ r. ⌜ Stepped instruction (now (trays .entry)) point (now (values .entry)) (now (results .entry)) r (now (values .exit)) (now (results .exit)) ⌝ }
 {
-    let kind = kind_at(rows, point);
-    if kind == STOP {
-        return point;
+    match instruction {
+        Instruction::Stop => point,
+        Instruction::Setc { d, c } => put(values, d, c, point),
+        Instruction::Copy { d, i } => copy(values, point, d, i),
+        Instruction::Addw { d, i, o } => add(values, point, d, i, o),
+        Instruction::Subw { d, i, o } => subtract(values, point, d, i, o),
+        Instruction::Mulw { d, i, o } => multiply(values, point, d, i, o),
+        Instruction::Divf { d, i, o } => divide(values, point, d, i, o),
+        Instruction::Load {
+            d,
+            w,
+            table,
+            a,
+            i,
+            k,
+        } => load_to(values, point, trays, results, d, w, table, a, i, k),
+        Instruction::Stor { v, w, a, i, k } => store_from(values, point, results, v, w, a, i, k),
+        Instruction::Jump { t } => t,
+        Instruction::Bltu { i, t, o } => if_less(values, point, i, t, o),
+        Instruction::Bequ { i, t, o } => if_equal(values, point, i, t, o),
     }
-    if kind == SETC {
-        return put(
-            values,
-            index_at(rows, point, 1),
-            word(number_at(rows, point, 6)),
-            point,
-        );
-    }
-    if kind == COPY {
-        return copy(
-            values,
-            point,
-            index_at(rows, point, 1),
-            index_at(rows, point, 2),
-        );
-    }
-    arithmetic(rows, point, values, trays, results)
-}
-
-// Whether a row is STOP.
-pub fn is_stop(rows: &[u64], point: usize) -> bool
-    requires { ⌜ point * 8 + 8 ≤ length (now rows) ⌝ }
-    ensures { λ r. ⌜ r ≡ isStop (instructionFrom (rowAt (now (rows .entry)) point)) ⌝ }
-{
-    kind_at(rows, point) == STOP
 }

@@ -18,9 +18,9 @@ returns : tie.Need-returns
 returns c =
     let r = c .before .before .before .before .before .run .ensures in
     record {
-      registers = ap (λ (o : Outcome). o .state .registers) (r .0);
-      results = r .1;
-      answer = c .run-numbers .ensures ∙ ap (λ (o : Outcome). runAnswer (o .report) (o .steps) (o .state .point)) (r .0);
+      registers = ap (λ (o : Outcome). o .state .registers) (r .outcome);
+      results = r .results;
+      answer = c .run-numbers .ensures ∙ ap (λ (o : Outcome). runAnswer (o .report) (o .steps) (o .state .point)) (r .outcome);
     }
 
 pub rithwellu-run-spec : {M : Type 1} → statement M

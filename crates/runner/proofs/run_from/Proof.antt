@@ -5,6 +5,7 @@ use lib.ListN.{length}
 use borrow.Author.Needs.{needs}
 use Rattle.model.specs.Listing.{listingOf, pointsOf}
 use Rattle.steps.specs.Stepped.{config}
+use Rattle.steps.proofs.Moves.{stepped-as}
 use Rattle.runner.specs.Runs.{state}
 use Rattle.runner.proofs.Gathered.{row-stands}
 use Rattle.runner.proofs.States.{met}
@@ -62,7 +63,7 @@ returns c =
     let x = state (s .args .start) (s .args .registers) in
     let e = stopped-here _ _ _ _ _ (passes _ _ _ _ (s .pre .0) (s .pre .1 .0)) (c .before .before .before .before .loop .inv) _ ((row-stands _ _ _ _ _ _ (s .pre .0) (c .before .before .before .before .before .before .before .before .gather .ensures) (c .before .before .before .before .loop .inv .good .exists)) .same) (sym (c .before .before .is-stop .ensures) ∙ c .before .if1 .taken) in
     let r = ran-to (s .args .listing .now) x (s .args .trays .now) (s .args .results .now) (s .args .budget) (s .pre .1 .0) (s .pre .1 .1 .0) _ (start-is x _ _ _ sixteen (c .before .before .before .before .before .values-of .ensures)) _ _ e in
-    (c .ended .ensures ∙ r .0, r .1)
+    record { outcome = c .ended .ensures ∙ r .outcome; results = r .results }
 
 ended-requires-2 : tie.Need-ended-requires-2 Inv-loop μ-loop
 ended-requires-2 c κs = search needs
@@ -80,24 +81,29 @@ returns-2 c =
     let x = state (s .args .start) (s .args .registers) in
     let e = paused-here _ _ _ _ _ (passes _ _ _ _ (s .pre .0) (s .pre .1 .0)) (c .before .before .before .before .before .loop .inv) _ ((row-stands _ _ _ _ _ _ (s .pre .0) (c .before .before .before .before .before .before .before .before .before .gather .ensures) (c .before .before .before .before .before .loop .inv .good .exists)) .same) (sym (c .before .before .before .is-stop .ensures) ∙ c .before .before .if1 .left) (c .before .if2 .taken) in
     let r = ran-to (s .args .listing .now) x (s .args .trays .now) (s .args .results .now) (s .args .budget) (s .pre .1 .0) (s .pre .1 .1 .0) _ (start-is x _ _ _ sixteen (c .before .before .before .before .before .before .values-of .ensures)) _ _ e in
-    (c .ended2 .ensures ∙ r .0, r .1)
+    record { outcome = c .ended2 .ensures ∙ r .outcome; results = r .results }
+
+instruction-at-requires : tie.Need-instruction-at-requires Inv-loop μ-loop
+instruction-at-requires c κs =
+    let s = c .before .before .before .before .before .before .before .before .before .before .before .before .before .before .before .before .before in
+    (row-stands _ _ _ _ _ _ (s .pre .0) (c .before .before .before .before .before .before .before .before .before .gather .ensures) (c .before .before .before .before .before .loop .inv .good .exists)) .room
 
 step-requires : tie.Need-step-requires Inv-loop μ-loop
 step-requires c κs =
-    let s = c .before .before .before .before .before .before .before .before .before .before .before .before .before .before .before .before .before .before .before in
-    let row = row-stands _ _ _ _ _ _ (s .pre .0) (c .before .before .before .before .before .before .before .before .before .before .before .gather .ensures) (c .before .before .before .before .before .before .before .loop .inv .good .exists) in
-    (row .room, steppable _ _ _ _ _ (passes _ _ _ _ (s .pre .0) (s .pre .1 .0)) (c .before .before .before .before .before .before .before .loop .inv) _ (row .same) (row .few))
+    let s = c .before .before .before .before .before .before .before .before .before .before .before .before .before .before .before .before .before .before .before .before in
+    let row = row-stands _ _ _ _ _ _ (s .pre .0) (c .before .before .before .before .before .before .before .before .before .before .before .before .gather .ensures) (c .before .before .before .before .before .before .before .before .loop .inv .good .exists) in
+    steppable _ _ _ _ _ (passes _ _ _ _ (s .pre .0) (s .pre .1 .0)) (c .before .before .before .before .before .before .before .before .loop .inv) _ (c .before .before .instruction-at .ensures ∙ row .same) (row .few)
 
 add-made : tie.Need-add-made Inv-loop μ-loop
-add-made c = let w = c .before .before .before .before .before .before .before .before .before .before .loop .inv .within in let l = c .before .before .before .before .before .before .if2 .left in let f = c .before .before .before .before .before .before .before .before .before .before .before .before .before .before .before .before .before .before .before .before .before .before .fits .budget in omega arith
+add-made c = let w = c .before .before .before .before .before .before .before .before .before .before .before .loop .inv .within in let l = c .before .before .before .before .before .before .before .if2 .left in let f = c .before .before .before .before .before .before .before .before .before .before .before .before .before .before .before .before .before .before .before .before .before .before .before .fits .budget in omega arith
 
 loop-less : tie.Need-loop-less Inv-loop μ-loop
-loop-less c = let w = c .before .before .before .before .before .before .before .before .before .before .loop .inv .within in let l = c .before .before .before .before .before .before .if2 .left in omega arith
+loop-less c = let w = c .before .before .before .before .before .before .before .before .before .before .before .loop .inv .within in let l = c .before .before .before .before .before .before .before .if2 .left in omega arith
 
 loop-again : tie.Need-loop-again Inv-loop μ-loop
 loop-again c =
-    let s = c .before .before .before .before .before .before .before .before .before .before .before .before .before .before .before .before .before .before .before .before .before .before in
-    goes-on _ _ _ _ _ (passes _ _ _ _ (s .pre .0) (s .pre .1 .0)) (c .before .before .before .before .before .before .before .before .before .before .loop .inv) _ ((row-stands _ _ _ _ _ _ (s .pre .0) (c .before .before .before .before .before .before .before .before .before .before .before .before .before .before .gather .ensures) (c .before .before .before .before .before .before .before .before .before .before .loop .inv .good .exists)) .same) (sym (c .before .before .before .before .before .before .before .before .is-stop .ensures) ∙ c .before .before .before .before .before .before .before .if1 .left) (c .before .before .before .before .before .before .if2 .left) _ _ _ (c .before .before .step .ensures)
+    let s = c .before .before .before .before .before .before .before .before .before .before .before .before .before .before .before .before .before .before .before .before .before .before .before in
+    goes-on _ _ _ _ _ (passes _ _ _ _ (s .pre .0) (s .pre .1 .0)) (c .before .before .before .before .before .before .before .before .before .before .before .loop .inv) _ ((row-stands _ _ _ _ _ _ (s .pre .0) (c .before .before .before .before .before .before .before .before .before .before .before .before .before .before .before .gather .ensures) (c .before .before .before .before .before .before .before .before .before .before .before .loop .inv .good .exists)) .same) (sym (c .before .before .before .before .before .before .before .before .before .is-stop .ensures) ∙ c .before .before .before .before .before .before .before .before .if1 .left) (c .before .before .before .before .before .before .before .if2 .left) _ _ _ (stepped-as (sym (c .before .before .before .before .before .instruction-at .ensures)) (c .before .before .step .ensures))
 
 pub run-from-spec : {M : Type 1} → statement M
 run-from-spec =
@@ -119,6 +125,7 @@ run-from-spec =
     same-length-3
     same-length-4
     returns-2
+    instruction-at-requires
     step-requires
     add-made
     loop-less

@@ -34,7 +34,7 @@ returns : tie.Need-returns
 returns c =
     let s = c .before .before .before .before .before .before .before .before .before .before .before .before .before .before in
     let r = listing-refused (s .args .listing .now) (state (s .args .start) (s .args .registers)) (s .args .trays .now) (s .args .results .now) (s .args .budget) _ (sym (c .before .before .before .before .before .before .before .judged-listing .ensures .judgement) ∙ c .before .before .j .given .1) in
-    (c .turned-back .ensures ∙ r .0, r .1)
+    record { outcome = c .turned-back .ensures ∙ r .outcome; results = r .results }
 
 same-length-2 : tie.Need-same-length-2
 same-length-2 c = search needs

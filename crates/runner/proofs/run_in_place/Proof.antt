@@ -48,6 +48,7 @@ use Rattle.model.proofs.machine.State.Laws as S′
 use Rattle.model.proofs.answers.Outcome as O
 use Rattle.model.proofs.answers.Outcome.Laws as O′
 use Rattle.runner.specs.declared.Ending.{Ending}
+use Rattle.runner.specs.Runs.{RunByValue}
 use Rattle.runner.proofs.Ending as E
 use Rattle.runner.proofs.Ending.Laws as E′
 use Rattle.runner.proofs.run as ran
@@ -107,7 +108,7 @@ module _ {M : Type 1} (𝓤 : URA M) (H : Heap 𝓤) (A : Atoms 𝓤) (W : Given
   Post = walkOf 𝓤 H A lent.ended stayed (lent.clauses 𝓤 H A at-mem run) .post (((κ₀, (κ₁, (κ₂, (κ₃, tt)))), (q₀, (q₁, (q₂, (q₃, tt)))), tt, x, at), tt)
 
   abbrev Ran : Outcome → List ℕ → Type 0
-  Ran r zs = (r ≡ Run.run (li .now) h (tr .now) ys n .outcome) × (zs ≡ Run.run (li .now) h (tr .now) ys n .results)
+  Ran r zs = RunByValue (Run.run (li .now) h (tr .now) ys n) r zs
 
   -- what whoever holds an outcome knows of its parts
   state-is : (r : Outcome) (vs : List Val) → Is O.the-row r vs → Is S.the-row (r .state) (vals (r .state))
@@ -121,7 +122,7 @@ module _ {M : Type 1} (𝓤 : URA M) (H : Heap 𝓤) (A : Atoms 𝓤) (W : Given
   exits r zs is e l =
       qed W (‵ (fobs γ (S.the-row .coded .code (r .state))) ∷ ‵ (fbor κ₁ (Body (mem S.the-row) b o γ)) ∷ ‵ (flft κ₁ q₁) ∷ (‵ (flft κ₀ q₀) ⊛ ‵ (flft κ₂ q₂) ⊛ ‵ (flft κ₃ q₃) ⊛ ‵ ftrue) ∷ ‵ (finally u8 γ′ zs) ∷ []) ∵
       suffices ! _ (ends-at 𝓤 H A lent.ended stayed (lent.clauses 𝓤 H A at-mem run) W (((κ₀, (κ₁, (κ₂, (κ₃, tt)))), (q₀, (q₁, (q₂, (q₃, tt)))), tt, x, at), tt) (ending-val r) (ending r) (tt, (r .state, (tt, (zs, (tt, tt))))) (tt, (tt, (tt, (l, (tt, tt)))))) $
-      says ! (record { report = ap (λ (w : Outcome). w .report) (e .0); steps = ap (λ (w : Outcome). w .steps) (e .0); state = ap (λ (w : Outcome). w .state) (e .0); results = e .1 }) $
+      says ! (record { report = ap (λ (w : Outcome). w .report) (e .outcome); steps = ap (λ (w : Outcome). w .steps) (e .outcome); state = ap (λ (w : Outcome). w .state) (e .outcome); results = e .results }) $
       move ! (3 ∷ []) $ split ! $ move ! (4 ∷ 1 ∷ []) $ join ! $ move ! (1 ∷ 0 ∷ []) $ join ! $ frame ! $
       feqI ! (List Val) (vptr b o ∷ []) (vptr b o ∷ []) refl $ fjoin3 ! $ nothing ! $ owned ! u32 (Is u32) (uint-makes 𝓤 H A W w32) n _ (refl, fits) $ fjoin ! $ move ! (2 ∷ 0 ∷ []) $ fjoin ! $ nothing ! $ fjoin ! $ move ! (1 ∷ 0 ∷ []) $ fjoin ! $ nothing ! $ fjoin ! $
       owned ! E.the-row (Is E.the-row) ((LL.makes E.the-type E′.the-plain) 𝓤 H A) (ending r) _ is $ move ! (1 ∷ 0 ∷ []) $ done !

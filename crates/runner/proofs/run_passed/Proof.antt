@@ -18,7 +18,7 @@ returns : tie.Need-returns
 returns c =
     let s = c .before .before .before .before .before .before .before .before .before .before in
     let r = state-refused (s .args .listing .now) (state (s .args .start) (s .args .registers)) (s .args .trays .now) (s .args .results .now) (s .args .budget) (s .pre .1) _ (sym (c .before .before .before .before .state-judged .ensures) ∙ c .before .before .r .given .1) in
-    (c .turned-back .ensures ∙ r .0, r .1)
+    record { outcome = c .turned-back .ensures ∙ r .outcome; results = r .results }
 
 enum-told : tie.Need-enum-told
 enum-told c = search needs

@@ -1,8 +1,8 @@
 use mathlib.Core.Path.{sym}
 use Rattle.decoded.proofs.ByKind.{stop-kind}
 use borrow.Author.Needs.{needs}
-use Rattle.steps.proofs.step.is_stop.Statement.{statement}
-use Rattle.steps.proofs.step.is_stop.Tie as tie
+use Rattle.steps.proofs.fetch.is_stop.Statement.{statement}
+use Rattle.steps.proofs.fetch.is_stop.Tie as tie
 
 kind-at-requires : tie.Need-kind-at-requires
 kind-at-requires c κs = search needs
