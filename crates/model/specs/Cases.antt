@@ -1,49 +1,51 @@
 -- Document 01, 'Worked listings': C1 to C10 with every variant stated there, as one table with one theorem, by computation.
+-- Answers are stated in numbers: the points of a listing that passes, or a refusal's number, place and second place, 0 for none.
+-- The rows after C10 go beyond them: each number that C1 to C10 do not show, 2 to 11, 15 and 16, and 12 once more, most with a second fault
+-- that is tested later; three rows of the printer and the runner; the call for claim lines; and the slips that document 01 names, each
+-- beside a like listing that passes. C9 is the slip of the address. A third variable in a link and a fourth link stand with the slips:
+-- no run goes wrong by them, so that soundness does not refuse them. 8 is shown on points that are read: 513 lines are too many to read by computation.
 -- A listing is written a row a line: the word and the six fields, each as the text that stands at the right of its columns.
-use Prim.Native.Nat.{ℕ, _-_}
+use Prim.Native.Nat.{ℕ, zero, suc, _+_, _-_}
 use Prim.Native.String.{String}
 use mathlib.Core.Path.{_≡_, refl}
 use mathlib.Core.List.{List, [], _∷_, _++_, map}
 use lib.ListN.{length, replicate}
-use Rattle.model.specs.Types.{State, ListingLength, DivisorMayBeZero, AccessMayLeave, ClaimMayFail, ClaimsNotMet, Verdict, Passed, turnedBack, Report, Stopped, Paused, notRun}
+use Rattle.model.specs.Types.{Copy, State, Refusal, Judgement, Accepted, refused, Verdict, Passed, turnedBack, Report, Stopped, Paused, notRun}
 use Rattle.model.specs.Text.{space}
 use Rattle.model.specs.Words.{bytes}
-use Rattle.model.specs.Listing.{claimLines}
+use Rattle.model.specs.Answers.{numberOf, placeOf, secondPlaceOf}
+use Rattle.model.specs.Listing.{Point, wholeJudged, listingOf, claimLinesJudged, claimLines}
 use Rattle.model.specs.Check.{check}
 use Rattle.model.specs.Run.{Ran, run}
 use Rattle.model.specs.Output.{printed}
 
 -- a text at the right of n columns
-right : ℕ → String → List ℕ
+abbrev right : ℕ → String → List ℕ
 right n t = replicate (n - length (bytes t)) space ++ bytes t
 
 -- a line: a word and six fields
-row : String → String → String → String → String → String → String → List ℕ
-unfolding right
+abbrev row : String → String → String → String → String → String → String → List ℕ
 row w f1 f2 f3 f4 f5 f6 = bytes w ++ right 4 f1 ++ right 4 f2 ++ right 4 f3 ++ right 4 f4 ++ right 4 f5 ++ right 15 f6 ++ bytes "\n"
 
 -- the rows of a listing, one after the other
-rows : List (List ℕ) → List ℕ
+abbrev rows : List (List ℕ) → List ℕ
 rows [] = []
 rows (l ∷ ls) = l ++ rows ls
 
 -- C1: no line at all
-c1 : List ℕ
+abbrev c1 : List ℕ
 c1 = []
 
 -- C2: STOP alone
-c2 : List ℕ
-unfolding row rows
+abbrev c2 : List ℕ
 c2 = rows (row "STOP" "" "" "" "" "" "" ∷ [])
 
 -- C3: a JUMP to itself
-c3 : List ℕ
-unfolding row rows
+abbrev c3 : List ℕ
 c3 = rows (row "JUMP" "" "" "" "0" "" "" ∷ [])
 
 -- C4: a divisor that may be 0
-c4 : List ℕ
-unfolding row rows
+abbrev c4 : List ℕ
 c4 =
     rows
     (row "LEAS" "16" "" "" "" "" "4"
@@ -53,22 +55,8 @@ c4 =
     ∷ row "STOP" "" "" "" "" "" ""
     ∷ [])
 
--- C4 with a claim of the last point that does not follow either: 12 is tested before 14
-c4b : List ℕ
-unfolding row rows
-c4b =
-    rows
-    (row "LEAS" "16" "" "" "" "" "4"
-    ∷ row "MOST" "1" "" "" "" "" "0"
-    ∷ row "LOAD" "2" "2" "0" "1" "1" "0"
-    ∷ row "DIVF" "3" "4" "" "" "0" "2"
-    ∷ row "LEAS" "3" "" "" "" "" "1"
-    ∷ row "STOP" "" "" "" "" "" ""
-    ∷ [])
-
 -- C5: C4 with its divisor guarded
-c5 : List ℕ
-unfolding row rows
+abbrev c5 : List ℕ
 c5 =
     rows
     (row "LEAS" "16" "" "" "" "" "4"
@@ -81,8 +69,7 @@ c5 =
     ∷ [])
 
 -- C6 with the bound of its claim Q
-c6 : String → List ℕ
-unfolding row rows
+abbrev c6 : String → List ℕ
 c6 q =
     rows
     (row "STRP" "17" "4" "1" "" "" "0"
@@ -100,8 +87,7 @@ c6 q =
     ∷ [])
 
 -- C8 with the number that is added
-c8 : String → List ℕ
-unfolding row rows
+abbrev c8 : String → List ℕ
 c8 n =
     rows
     (row "SETC" "0" "" "" "" "" "4294967295"
@@ -112,8 +98,7 @@ c8 n =
     ∷ [])
 
 -- C9: an address that would wrap
-c9 : List ℕ
-unfolding row rows
+abbrev c9 : List ℕ
 c9 =
     rows
     (row "LEAS" "1" "" "" "" "" "1073741824"
@@ -124,8 +109,7 @@ c9 =
     ∷ [])
 
 -- C10: a point that nothing reaches, and that still owes its divisor
-c10 : List ℕ
-unfolding row rows
+abbrev c10 : List ℕ
 c10 =
     rows
     (row "JUMP" "" "" "" "2" "" ""
@@ -135,74 +119,313 @@ c10 =
     ∷ row "STOP" "" "" "" "" "" ""
     ∷ [])
 
+-- 2: a byte of line 3 is outside its limits; the word is unknown too
+abbrev unprintable : List ℕ
+unprintable =
+    rows
+    (row "STOP" "" "" "" "" "" ""
+    ∷ row "LEAS" "0" "" "" "" "" "0"
+    ∷ row "H\nLT" "x" "" "" "" "" ""
+    ∷ row "STOP" "" "" "" "" "" ""
+    ∷ [])
+
+-- 3: the word of line 2 is unknown; F1 is misshapen too
+abbrev unknownWord : List ℕ
+unknownWord =
+    rows
+    (row "STOP" "" "" "" "" "" ""
+    ∷ row "HALT" "x" "" "" "" "" ""
+    ∷ row "STOP" "" "" "" "" "" ""
+    ∷ [])
+
+-- 4: F2 of line 2 is misshapen; F1 is outside its limits too
+abbrev misshapen : List ℕ
+misshapen =
+    rows
+    (row "STOP" "" "" "" "" "" ""
+    ∷ row "COPY" "16" "x" "" "" "" ""
+    ∷ row "STOP" "" "" "" "" "" ""
+    ∷ [])
+
+-- 5: F6 of line 3 is outside its limits; the claim is out of order too
+abbrev outsideLimits : List ℕ
+outsideLimits =
+    rows
+    (row "STOP" "" "" "" "" "" ""
+    ∷ row "MOST" "16" "" "" "" "" "0"
+    ∷ row "LEAS" "16" "" "" "" "" "65537"
+    ∷ row "STOP" "" "" "" "" "" ""
+    ∷ [])
+
+-- 6: the claim of line 3 is out of order; a byte of line 4 is outside its limits too
+abbrev outOfOrder : List ℕ
+outOfOrder =
+    rows
+    (row "STOP" "" "" "" "" "" ""
+    ∷ row "MOST" "16" "" "" "" "" "0"
+    ∷ row "LEAS" "17" "" "" "" "" "0"
+    ∷ row "ST\nP" "" "" "" "" "" ""
+    ∷ [])
+
+-- 7: the last line, line 4, is a claim; the target of line 2 is no point too
+abbrev claimLast : List ℕ
+claimLast =
+    rows
+    (row "STOP" "" "" "" "" "" ""
+    ∷ row "JUMP" "" "" "" "9" "" ""
+    ∷ row "STOP" "" "" "" "" "" ""
+    ∷ row "LEAS" "0" "" "" "" "" "0"
+    ∷ [])
+
+-- 8: n points on successive lines from line l on, each a COPY, so that 10 is due too
+abbrev copies : ℕ → ℕ → List Point
+copies l zero = []
+copies l (suc n) = record { line = l; claims = []; instruction = Copy 0 1 } ∷ copies (l + 1) n
+
+-- 9: of four points, line 4 goes to a fifth and line 5 to a sixth; the last instruction is a COPY too
+abbrev noSuchTarget : List ℕ
+noSuchTarget =
+    rows
+    (row "LEAS" "0" "" "" "" "" "1"
+    ∷ row "MOST" "0" "" "" "" "" "0"
+    ∷ row "JUMP" "" "" "" "2" "" ""
+    ∷ row "JUMP" "" "" "" "4" "" ""
+    ∷ row "JUMP" "" "" "" "5" "" ""
+    ∷ row "COPY" "0" "1" "" "" "" ""
+    ∷ [])
+
+-- 10: the last instruction, on line 4, is a COPY; a range of point 0 is empty too
+abbrev noEnd : List ℕ
+noEnd =
+    rows
+    (row "LEAS" "0" "" "" "" "" "1"
+    ∷ row "MOST" "0" "" "" "" "" "0"
+    ∷ row "JUMP" "" "" "" "1" "" ""
+    ∷ row "COPY" "0" "1" "" "" "" ""
+    ∷ [])
+
+-- 11: a range of point 0, on line 3, is empty; the divisor may be 0 too
+abbrev emptyStart : List ℕ
+emptyStart =
+    rows
+    (row "LEAS" "0" "" "" "" "" "1"
+    ∷ row "MOST" "0" "" "" "" "" "0"
+    ∷ row "DIVF" "1" "2" "" "" "0" "3"
+    ∷ row "STOP" "" "" "" "" "" ""
+    ∷ [])
+
+-- 12: C4 where a claim of the last point does not follow either
+abbrev twoFaults : List ℕ
+twoFaults =
+    rows
+    (row "LEAS" "16" "" "" "" "" "4"
+    ∷ row "MOST" "1" "" "" "" "" "0"
+    ∷ row "LOAD" "2" "2" "0" "1" "1" "0"
+    ∷ row "DIVF" "3" "4" "" "" "0" "2"
+    ∷ row "LEAS" "3" "" "" "" "" "1"
+    ∷ row "STOP" "" "" "" "" "" ""
+    ∷ [])
+
+-- 15: a table of one byte too many
+abbrev longTable : List ℕ
+longTable = replicate 65537 0
+
+-- register 0 is written between two claims of one stripe, of scale 1 and with the given x, y and z
+abbrev written : String → String → String → List ℕ
+written x y z =
+    rows
+    (row "STRP" x "1" y z "" "1"
+    ∷ row "SETC" "0" "" "" "" "" "9"
+    ∷ row "STRP" x "1" y z "" "1"
+    ∷ row "STOP" "" "" "" "" "" ""
+    ∷ [])
+
+-- register 0, at most m, is incremented between two claims of one stripe, the second with the bound b
+abbrev incremented : String → String → List ℕ
+incremented m b =
+    rows
+    (row "MOST" "0" "" "" "" "" m
+    ∷ row "STRP" "0" "1" "1" "" "" "0"
+    ∷ row "ADDW" "0" "0" "" "" "1" "1"
+    ∷ row "STRP" "0" "1" "1" "" "" b
+    ∷ row "STOP" "" "" "" "" "" ""
+    ∷ [])
+
+-- an access through one link, a stripe of scale a with the given z
+abbrev linked : String → String → List ℕ
+linked a z =
+    rows
+    (row "STRP" "1" a "0" z "" "0"
+    ∷ row "STRP" "16" "1" "1" "" "" "4"
+    ∷ row "LOAD" "2" "4" "0" "1" "0" "0"
+    ∷ row "STOP" "" "" "" "" "" ""
+    ∷ [])
+
+-- an access that needs v links, each from one register to the next
+abbrev chained : String → List ℕ
+chained v =
+    rows
+    (row "STRP" "1" "1" "0" "" "" "0"
+    ∷ row "STRP" "2" "1" "1" "" "" "0"
+    ∷ row "STRP" "3" "1" "2" "" "" "0"
+    ∷ row "STRP" "4" "1" "3" "" "" "0"
+    ∷ row "STRP" "16" "1" v "" "" "4"
+    ∷ row "LOAD" "5" "4" "0" "1" "0" "0"
+    ∷ row "STOP" "" "" "" "" "" ""
+    ∷ [])
+
+-- a loop that goes back while register 0 is below n, to a claim that it is at most 3
+abbrev looping : String → List ℕ
+looping n =
+    rows
+    (row "SETC" "0" "" "" "" "" "0"
+    ∷ row "MOST" "0" "" "" "" "" "3"
+    ∷ row "ADDW" "0" "0" "" "" "1" "1"
+    ∷ row "MOST" "0" "" "" "" "" "4"
+    ∷ row "BLTU" "" "0" "" "1" "1" n
+    ∷ row "STOP" "" "" "" "" "" ""
+    ∷ [])
+
 -- a state at a point whose first three registers hold these numbers and the others 0
-standing : ℕ → ℕ → ℕ → ℕ → State
+abbrev standing : ℕ → ℕ → ℕ → ℕ → State
 standing p a b c = record { point = p; registers = a ∷ b ∷ c ∷ replicate 13 0 }
 
--- what a run hands back: its report, its steps, its state, and the bytes of the results
-ran : Report → ℕ → State → List ℕ → List ℕ → Ran
-ran r n s ts rs = record { outcome = record { report = r; state = s; steps = n }; trays = ts; results = rs }
-
--- an answer of one of the calls
+-- an answer in numbers: the points of a listing that passes, the end of a run, no refusal, or a refusal's number, place and second place
 data Answer : Type 0 where
-  verdict : Verdict → Answer
-  bytesOut : List ℕ → Answer
-  handedBack : Ran → Answer
+  passes : ℕ → Answer
+  stops : Answer
+  pauses : Answer
+  accepts : Answer
+  turnedBackBy : ℕ → ℕ → ℕ → Answer
 
--- a worked case: the answer that the definitions give, and the answer that is stated
+-- a refusal in numbers
+abbrev ofRefusal : Refusal → Answer
+ofRefusal r = turnedBackBy (numberOf r) (placeOf r) (secondPlaceOf r)
+
+-- the checker's answer in numbers
+abbrev ofVerdict : Verdict → Answer
+ofVerdict (Passed n) = passes n
+ofVerdict (turnedBack r) = ofRefusal r
+
+-- a run's report in numbers
+abbrev ofReport : Report → Answer
+ofReport Stopped = stops
+ofReport Paused = pauses
+ofReport (notRun r) = ofRefusal r
+
+-- the outcome of some tests in numbers
+abbrev ofJudgement : Judgement → Answer
+ofJudgement Accepted = accepts
+ofJudgement (refused r) = ofRefusal r
+
+-- what a call hands back: an answer alone, a line, an answer with a part of the listing, or a run's answer, steps, state, trays and results
+data HandedBack : Type 0 where
+  answer : Answer → HandedBack
+  line : List ℕ → HandedBack
+  part : Answer → List ℕ → HandedBack
+  afterRun : Answer → ℕ → State → List ℕ → List ℕ → HandedBack
+
+-- what a run hands back, in numbers
+abbrev ofRun : Ran → HandedBack
+ofRun r = afterRun (ofReport (r .outcome .report)) (r .outcome .steps) (r .outcome .state) (r .trays) (r .results)
+
+-- a worked case: what the definitions give, and what is stated
 record Case : Type 0 where
-  given : Answer
-  stated : Answer
+  given : HandedBack
+  stated : HandedBack
 
 -- the checker's answer
-abbrev checked : List ℕ → Verdict → Case
-checked l v = record { given = verdict (check l); stated = verdict v }
+abbrev checked : List ℕ → Answer → Case
+checked l a = record { given = answer (ofVerdict (check l)); stated = answer a }
+
+-- the tests 7 to 11 over so many lines that were read as these points
+abbrev wholeTested : ℕ → List Point → Answer → Case
+wholeTested lines ps a = record { given = answer (ofJudgement (wholeJudged lines ps [])); stated = answer a }
 
 -- the printed line
 abbrev prints : List ℕ → String → Case
-prints l t = record { given = bytesOut (printed (check l)); stated = bytesOut (bytes t) }
+prints l t = record { given = line (printed (check l)); stated = line (bytes t) }
 
--- what a run hands back
-abbrev runs : List ℕ → State → List ℕ → List ℕ → ℕ → Ran → Case
-runs l s ts rs n r = record { given = handedBack (run l s ts rs n); stated = handedBack r }
+-- a run from a state over trays and results with a budget
+abbrev runs : List ℕ → State → List ℕ → List ℕ → ℕ → HandedBack → Case
+runs l s ts rs n h = record { given = ofRun (run l s ts rs n); stated = h }
 
 -- the claim lines of a point
-abbrev claimsAt : List ℕ → ℕ → List ℕ → Case
-claimsAt l p part = record { given = bytesOut (claimLines l p); stated = bytesOut part }
+abbrev claimsAt : List ℕ → ℕ → Answer → List ℕ → Case
+claimsAt l p a ls = record { given = part (ofJudgement (claimLinesJudged (listingOf l) p)) (claimLines l p); stated = part a ls }
 
 -- all cases
-table : List Case
-unfolding c1 c2 c3 c4 c4b c5 c6 c8 c9 c10 standing ran row
+abbrev table : List Case
 table =
-    checked c1 (turnedBack ListingLength)
-    ∷ checked c2 (Passed 1)
-    ∷ checked c3 (Passed 1)
-    ∷ runs c3 (standing 0 0 0 0) [] [] 5 (ran Paused 5 (standing 0 0 0 0) [] [])
-    ∷ checked c4 (turnedBack (DivisorMayBeZero 4))
+    checked c1 (turnedBackBy 1 0 0)
+    ∷ checked c2 (passes 1)
+    ∷ checked c3 (passes 1)
+    ∷ runs c3 (standing 0 0 0 0) [] [] 5 (afterRun pauses 5 (standing 0 0 0 0) [] [])
+    ∷ checked c4 (turnedBackBy 12 4 0)
     ∷ prints c4 "FAIL  12                              4\n"
-    ∷ checked c4b (turnedBack (DivisorMayBeZero 4))
-    ∷ checked c5 (Passed 4)
+    ∷ checked c5 (passes 4)
     ∷ prints c5 "PASS                                  4\n"
-    ∷ claimsAt c5 2 (row "LEAS" "2" "" "" "" "" "1")
-    ∷ checked (c6 "4") (Passed 6)
-    ∷ checked (c6 "5") (turnedBack (ClaimMayFail 4 7))
+    ∷ checked (c6 "4") (passes 6)
+    ∷ checked (c6 "5") (turnedBackBy 14 4 7)
+    ∷ checked (c6 "3") (turnedBackBy 13 8 0)
+    ∷ runs (c6 "4") (standing 0 0 2 7) [] (replicate 8 255) 10 (afterRun stops 10 (standing 2 2 2 7) [] (7 ∷ 0 ∷ 0 ∷ 0 ∷ 7 ∷ 0 ∷ 0 ∷ 0 ∷ []))
+    ∷ runs (c6 "4") (standing 0 0 3 7) [] (replicate 8 255) 10 (afterRun (turnedBackBy 17 0 0) 0 (standing 0 0 3 7) [] (replicate 8 255))
+    ∷ checked (c8 "1") (turnedBackBy 14 3 4)
+    ∷ checked (c8 "0") (passes 3)
+    ∷ checked c9 (turnedBackBy 13 4 0)
+    ∷ checked c10 (turnedBackBy 12 4 0)
+    -- beyond C1 to C10: the other numbers
+    ∷ checked unprintable (turnedBackBy 2 3 0)
+    ∷ checked unknownWord (turnedBackBy 3 2 0)
+    ∷ checked misshapen (turnedBackBy 4 2 0)
+    ∷ checked outsideLimits (turnedBackBy 5 3 0)
+    ∷ checked outOfOrder (turnedBackBy 6 3 0)
+    ∷ checked claimLast (turnedBackBy 7 4 0)
+    ∷ wholeTested 514 (copies 2 513) (turnedBackBy 8 514 0)
+    ∷ wholeTested 513 (copies 2 512) (turnedBackBy 10 513 0)
+    ∷ checked noSuchTarget (turnedBackBy 9 4 0)
+    ∷ checked noEnd (turnedBackBy 10 4 0)
+    ∷ checked emptyStart (turnedBackBy 11 3 0)
+    ∷ checked twoFaults (turnedBackBy 12 4 0)
+    ∷ runs c2 (standing 1 0 0 0) longTable [] 5 (afterRun (turnedBackBy 15 0 0) 0 (standing 1 0 0 0) longTable [])
+    ∷ runs c2 (standing 1 0 0 0) [] longTable 5 (afterRun (turnedBackBy 15 0 0) 0 (standing 1 0 0 0) [] longTable)
+    ∷ runs c2 (standing 1 0 0 0) [] [] 5 (afterRun (turnedBackBy 16 0 0) 0 (standing 1 0 0 0) [] [])
+    -- a printed second place, a run of a listing that is turned back, and a run without budget
     ∷ prints (c6 "5") "FAIL  14               7              4\n"
-    ∷ checked (c6 "3") (turnedBack (AccessMayLeave 8))
-    ∷ runs (c6 "4") (standing 0 0 2 7) [] (replicate 8 0) 10 (ran Stopped 10 (standing 2 2 2 7) [] (7 ∷ 0 ∷ 0 ∷ 0 ∷ 7 ∷ 0 ∷ 0 ∷ 0 ∷ []))
-    ∷ runs (c6 "4") (standing 0 0 3 7) [] (replicate 8 0) 10 (ran (notRun ClaimsNotMet) 0 (standing 0 0 3 7) [] (replicate 8 0))
-    ∷ checked (c8 "1") (turnedBack (ClaimMayFail 3 4))
-    ∷ checked (c8 "0") (Passed 3)
-    ∷ checked c9 (turnedBack (AccessMayLeave 4))
-    ∷ checked c10 (turnedBack (DivisorMayBeZero 4))
+    ∷ runs c4 (standing 4 1 2 3) (9 ∷ []) (8 ∷ []) 5 (afterRun (turnedBackBy 12 4 0) 0 (standing 4 1 2 3) (9 ∷ []) (8 ∷ []))
+    ∷ runs c2 (standing 0 1 2 3) [] [] 0 (afterRun stops 0 (standing 0 1 2 3) [] [])
+    -- claim lines: given, also where 12 is due, none, and turned back
+    ∷ claimsAt c4 0 accepts (row "LEAS" "16" "" "" "" "" "4" ++ row "MOST" "1" "" "" "" "" "0")
+    ∷ claimsAt c5 2 accepts (row "LEAS" "2" "" "" "" "" "1")
+    ∷ claimsAt c5 3 accepts []
+    ∷ claimsAt c5 4 (turnedBackBy 16 0 0) []
+    ∷ claimsAt c1 0 (turnedBackBy 1 0 0) []
+    -- the slips: stripes of a written register, an increment that may wrap, links, and the way back of a loop
+    ∷ checked (written "16" "1" "2") (passes 2)
+    ∷ checked (written "0" "1" "") (turnedBackBy 14 2 3)
+    ∷ checked (written "16" "0" "") (turnedBackBy 14 2 3)
+    ∷ checked (written "16" "1" "0") (turnedBackBy 14 2 3)
+    ∷ checked (incremented "4294967294" "1") (passes 2)
+    ∷ checked (incremented "4294967294" "2") (turnedBackBy 14 3 4)
+    ∷ checked (incremented "4294967295" "1") (turnedBackBy 14 3 4)
+    ∷ checked (linked "1" "") (passes 2)
+    ∷ checked (linked "2" "") (turnedBackBy 13 3 0)
+    ∷ checked (linked "1" "3") (turnedBackBy 13 3 0)
+    ∷ checked (chained "3") (passes 2)
+    ∷ checked (chained "4") (turnedBackBy 13 6 0)
+    ∷ checked (looping "4") (passes 4)
+    ∷ checked (looping "5") (turnedBackBy 14 5 2)
     ∷ []
 
-given : Case → Answer
+-- what the definitions give in a case
+abbrev given : Case → HandedBack
 given c = c .given
 
-stated : Case → Answer
+-- what is stated in a case
+abbrev stated : Case → HandedBack
 stated c = c .stated
 
 -- the theorem: every answer is the one stated
 worked : map given table ≡ map stated table
-unfolding given stated table check printed run claimLines
+unfolding check wholeJudged printed run claimLines
 worked = refl
