@@ -8,6 +8,7 @@ pub mod Transfer
 pub mod Lists
 pub mod Limits
 pub mod Reading
+pub mod Parts
 pub mod Facts
 pub mod Stepping
 pub mod Steps

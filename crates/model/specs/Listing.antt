@@ -5,7 +5,7 @@ use mathlib.Core.Bool.{Bool, true, false, _&&_, cond}
 use mathlib.Core.List.{List, [], _∷_, _++_}
 use lib.ListN.{length, getD, take, drop}
 use lib.Dec.{leb, ltb, eqb}
-use Rattle.model.specs.Types.{Instruction, Stop, Setc, Copy, Addw, Subw, Mulw, Divf, Load, Stor, Jump, Bltu, Bequ, Claim, Leas, Most, Strp, Line, refusedLine, claimLine, instructionLine, Refusal, ListingLength, ClaimOrder, LastLineClaim, TooManyPoints, NoSuchTarget, NoEnd, EmptyStart, NoSuchPoint, Judgement, Accepted, refused}
+use Rattle.model.specs.Types.{Instruction, Stop, Setc, Copy, Addw, Subw, Mulw, Divf, Load, Stor, Jump, Bltu, Bequ, Claim, Leas, Most, Strp, Line, refusedLine, claimLine, instructionLine, Refusal, ListingLength, ClaimOrder, LastLineClaim, TooManyPoints, NoSuchTarget, NoEnd, EmptyStart, NoSuchPoint, Judgement, Accepted, refused, ClaimPart}
 use Rattle.model.specs.Limits.{lineBytes, greatestListing, greatestPoints, greatestStripes}
 use Rattle.model.specs.Answers.{_andThen_}
 use Rattle.model.specs.Lines.{readLine}
@@ -180,9 +180,17 @@ abbrev pub claimLinesJudged : Listing → ℕ → Judgement
 claimLinesJudged (readAs ps) p = pointExists ps p
 claimLinesJudged (unreadable r) p = refused r
 
--- the part of the listing that holds the claim lines of a point
-abbrev pub claimPart : List ℕ → Point → List ℕ
-claimPart s q = take (length (q .claims) * lineBytes) (drop ((firstLine q - 1) * lineBytes) s)
+-- where the claim lines of a point begin in the listing
+abbrev pub claimOffset : Point → ℕ
+claimOffset q = (firstLine q - 1) * lineBytes
+
+-- how many bytes they have
+abbrev pub claimLength : Point → ℕ
+claimLength q = length (q .claims) * lineBytes
+
+-- the part of the listing that holds them
+abbrev pub claimBytes : List ℕ → Point → List ℕ
+claimBytes s q = take (claimLength q) (drop (claimOffset q) s)
 
 -- the part, where nothing turns the call back
 abbrev pub partOr : Judgement → List ℕ → List ℕ
@@ -192,4 +200,14 @@ partOr (refused r) l = []
 -- the claim lines of point p as a part of the listing, empty on refusal
 unfoldable pub claimLines : List ℕ → ℕ → List ℕ
 unfolding listingOf
-claimLines s p = partOr (claimLinesJudged (listingOf s) p) (claimPart s (pointAt (pointsOf (listingOf s)) p))
+claimLines s p = partOr (claimLinesJudged (listingOf s) p) (claimBytes s (pointAt (pointsOf (listingOf s)) p))
+
+-- a judgement with the place of the part, 0 and 0 on refusal
+abbrev pub partJudged : Judgement → Point → ClaimPart
+partJudged Accepted q = record { judgement = Accepted; offset = claimOffset q; length = claimLength q }
+partJudged (refused r) q = record { judgement = refused r; offset = 0; length = 0 }
+
+-- the same part by its offset and its length, with the judgement of the call
+unfoldable pub claimPart : List ℕ → ℕ → ClaimPart
+unfolding listingOf
+claimPart s p = partJudged (claimLinesJudged (listingOf s) p) (pointAt (pointsOf (listingOf s)) p)

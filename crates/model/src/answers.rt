@@ -1,4 +1,4 @@
-// The answers: why something is turned back, what the checker says, how a run ended.
+// The answers: why something is turned back, what the checker says, where claim lines stand, how a run ended.
 use crate::machine::State;
 
 // Why a listing, a state or a call is turned back: a case for each number from 1 to 17, in their order, with the lines that it names.
@@ -32,6 +32,13 @@ pub enum Judgement {
 pub enum Verdict {
     Passed { points: usize },
     Refused(Refusal),
+}
+
+// The answer for the claim lines of a point: whether the call is turned back, where in the listing the part that holds them begins, and how many bytes it has.
+pub struct ClaimPart {
+    pub judgement: Judgement,
+    pub offset: usize,
+    pub length: usize,
 }
 
 // How a run ended.

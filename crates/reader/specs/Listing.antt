@@ -6,7 +6,9 @@ use mathlib.Core.List.{List}
 use lib.ListN.{length}
 use Rattle.model.specs.declared.answers.Judgement.{Judgement}
 use Rattle.model.specs.declared.answers.Judgement.the-variants.{Accepted, Refused as refused}
+use Rattle.model.specs.declared.answers.Refusal.{Refusal}
 use Rattle.model.specs.declared.answers.Refusal.the-variants.{EmptyStart}
+use Rattle.model.specs.declared.answers.ClaimPart.{ClaimPart}
 use Rattle.model.specs.Limits.{lineBytes, greatestListing, greatestStripes}
 use Rattle.model.specs.Facts.{factsOf}
 use Rattle.model.specs.Transfer.{possible}
@@ -55,3 +57,10 @@ ReadFrom s lines (unreadable x) r rows at = r .judgement ≡ refused x
 
 abbrev pub Stands : List ℕ → model.Listing → Listing → List ℕ → List ℕ → Type 0
 Stands s l r rows at = ReadFrom s (length s / lineBytes) l r rows at
+
+-- the part of a point that is read, and of a call that is turned back
+abbrev pub partOf : Point → ClaimPart
+partOf q = record { judgement = Accepted; offset = firstOf q * lineBytes; length = q .claims * lineBytes }
+
+abbrev pub noPart : Refusal → ClaimPart
+noPart r = record { judgement = refused r; offset = 0; length = 0 }
