@@ -1,4 +1,4 @@
-/* The checker and the runner for C. Link with target/staticlib/libexports.a (rt staticlib exports). */
+/* The checker, the claim lines and the runner for C. Link with target/staticlib/libexports.a (rt staticlib exports). */
 #ifndef RITHWELLU_H
 #define RITHWELLU_H
 
@@ -18,6 +18,14 @@ void rithwellu_check(const uint8_t *listing, size_t len, uint64_t answer[4]);
 
 /* The line of 40 bytes that the program prints for the listing. */
 void rithwellu_print(const uint8_t *listing, size_t len, uint8_t line[40]);
+
+/* The claim lines of a point, as the part of the listing that holds them:
+   answer[0] the number of the refusal, 1 to 11 or 16, or 0;
+   answer[1] its place, a line counted from 1, or 0; none of them has a second place;
+   answer[2] where the part begins, in bytes from the start of the listing;
+   answer[3] how many bytes it has, 0 where the point has no claims.
+   A call that is turned back has 0 in answer[2] and answer[3]. */
+void rithwellu_claim_lines(const uint8_t *listing, size_t len, size_t point, uint64_t answer[4]);
 
 /* A run of the listing from a point and sixteen registers, over both tables, with a budget of steps.
    The registers and the results then hold what the run hands back:

@@ -3,6 +3,9 @@ use Prim.Native.Nat.{ℕ}
 use mathlib.Core.Path.{_≡_}
 use mathlib.Core.List.{List, [], _∷_}
 use Rattle.model.specs.declared.machine.State.{State}
+use Rattle.model.specs.declared.answers.Judgement.{Judgement}
+use Rattle.model.specs.declared.answers.Judgement.the-variants.{Accepted, Refused as refused}
+use Rattle.model.specs.declared.answers.ClaimPart.{ClaimPart}
 use Rattle.model.specs.declared.answers.Report.{Report}
 use Rattle.model.specs.declared.answers.Report.the-variants.{Stopped, Paused, Refused as notRun}
 use Rattle.model.specs.declared.answers.Verdict.{Verdict}
@@ -14,6 +17,19 @@ use Rattle.model.specs.Run.{Ran}
 abbrev pub answerOf : Verdict → List ℕ
 answerOf (Passed n) = 0 ∷ 0 ∷ 0 ∷ n ∷ []
 answerOf (turnedBack r) = numberOf r ∷ placeOf r ∷ secondPlaceOf r ∷ 0 ∷ []
+
+-- the number and the place of the refusal that a judgement gives, or 0
+abbrev pub judgedNumber : Judgement → ℕ
+judgedNumber Accepted = 0
+judgedNumber (refused r) = numberOf r
+
+abbrev pub judgedPlace : Judgement → ℕ
+judgedPlace Accepted = 0
+judgedPlace (refused r) = placeOf r
+
+-- the answer for claim lines: number and place, then offset and length of the part. No refusal of that call has a second place
+abbrev pub partAnswer : ClaimPart → List ℕ
+partAnswer c = judgedNumber (c .judgement) ∷ judgedPlace (c .judgement) ∷ c .offset ∷ c .length ∷ []
 
 -- how a run ended: 0 stopped, 1 paused, 2 turned back; the number, place and second place of the refusal, or 0; the steps; the point
 abbrev pub runAnswer : Report → ℕ → ℕ → List ℕ

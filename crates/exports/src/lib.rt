@@ -1,16 +1,19 @@
-// The checker and the runner for C and Rust.
+// The checker, the claim lines and the runner for C and Rust.
 use checker::output::number;
 use checker::output::place;
 use checker::output::second_place;
+use model::answers::ClaimPart;
+use model::answers::Judgement;
 use model::answers::Report;
 use model::answers::Verdict;
 use model::machine::State;
 use runner::Ending;
 ghost use mathlib.Core.Path.{_≡_};
+ghost use Rattle.model.specs.Listing.{claimPart};
 ghost use Rattle.model.specs.Check.{check};
 ghost use Rattle.model.specs.Output.{printed};
 ghost use Rattle.model.specs.Run as Run;
-ghost use Rattle.exports.specs.Answer.{answerOf, runAnswer, state, RunAnswered, RunAnsweredInPlace};
+ghost use Rattle.exports.specs.Answer.{answerOf, partAnswer, runAnswer, state, RunAnswered, RunAnsweredInPlace};
 
 // An answer as four numbers.
 fn numbers(v: Verdict) -> [u64; 4]
@@ -44,6 +47,31 @@ pub extern "C" fn rithwellu_print(listing: &[u8], line: &mut [u8; 40])
     ensures { λ _. ⌜ now (line .exit) ≡ printed (check (now (listing .entry))) ⌝ }
 {
     *line = checker::report(listing);
+}
+
+// Where claim lines stand, as four numbers.
+fn part_numbers(c: ClaimPart) -> [u64; 4]
+    ensures { λ r. ⌜ r ≡ partAnswer c ⌝ }
+{
+    let at = c.offset as u64;
+    let n = c.length as u64;
+    let j = c.judgement;
+    match j {
+        Judgement::Accepted => [0, 0, at, n],
+        Judgement::Refused(r) => {
+            let k = number(r);
+            let p = place(r);
+            [k, p, at, n]
+        }
+    }
+}
+
+// The claim lines of a point as a part of the listing: number and place of the refusal, or 0; offset and length of the part.
+#[no_mangle]
+pub extern "C" fn rithwellu_claim_lines(listing: &[u8], point: usize, answer: &mut [u64; 4])
+    ensures { λ _. ⌜ now (answer .exit) ≡ partAnswer (claimPart (now (listing .entry)) point) ⌝ }
+{
+    *answer = part_numbers(reader::claims::claim_part(listing, point));
 }
 
 // How a run ended, as six numbers.

@@ -1,4 +1,4 @@
-//! The proved checker and runner, as their static library offers them to C. Any bytes, sizes and states may be passed.
+//! The proved checker, claim lines and runner, as their static library offers them to C. Any bytes, sizes and states may be passed.
 
 /// Number 0 and the points for a listing that passes, else the number of the refusal and its places.
 #[derive(Clone, Copy, Debug, PartialEq, Eq)]
@@ -7,6 +7,22 @@ pub struct Answer {
     pub place: u64,
     pub second: u64,
     pub points: u64,
+}
+
+/// Number 0 and where the claim lines of a point stand in the listing, else the number and the place of the refusal.
+#[derive(Clone, Copy, Debug, PartialEq, Eq)]
+pub struct ClaimPart {
+    pub number: u64,
+    pub place: u64,
+    pub offset: u64,
+    pub length: u64,
+}
+
+/// Why a call for claim lines is turned back.
+#[derive(Clone, Copy, Debug, PartialEq, Eq)]
+pub struct Refusal {
+    pub number: u64,
+    pub place: u64,
 }
 
 /// A point and the registers, as the library lays them out.
@@ -36,6 +52,7 @@ pub struct Outcome {
 extern "C" {
     fn rithwellu_check(listing: *const u8, len: usize, answer: *mut u64);
     fn rithwellu_print(listing: *const u8, len: usize, line: *mut u8);
+    fn rithwellu_claim_lines(listing: *const u8, len: usize, point: usize, answer: *mut u64);
     fn rithwellu_run(
         listing: *const u8,
         listing_len: usize,
@@ -78,6 +95,24 @@ pub fn printed(listing: &[u8]) -> [u8; 40] {
     // SAFETY: the library reads `len` bytes of the listing and writes forty bytes
     unsafe { rithwellu_print(listing.as_ptr(), listing.len(), line.as_mut_ptr()) };
     line
+}
+
+/// Where the claim lines of a point stand: offset and length in bytes, 0 and 0 where the call is turned back.
+pub fn claim_part(listing: &[u8], point: usize) -> ClaimPart {
+    let mut answer = [0; 4];
+    // SAFETY: the library reads `len` bytes of the listing and writes four numbers
+    unsafe { rithwellu_claim_lines(listing.as_ptr(), listing.len(), point, answer.as_mut_ptr()) };
+    let [number, place, offset, length] = answer;
+    ClaimPart { number, place, offset, length }
+}
+
+/// The claim lines of a point as the part of the listing that holds them, empty where there are none.
+pub fn claim_lines(listing: &[u8], point: usize) -> Result<&[u8], Refusal> {
+    let ClaimPart { number, place, offset, length } = claim_part(listing, point);
+    if number != 0 {
+        return Err(Refusal { number, place });
+    }
+    Ok(&listing[offset as usize..][..length as usize])
 }
 
 /// Checks the listing and runs it from the state for at most `budget` steps. A refusal gives back the state with 0

@@ -1,17 +1,22 @@
-//! Compares the proved checker with the reference on every family of listings, and the program with the examples.
-//! Counted are: each family, each example, and that no answer is rare.
+//! Compares the proved checker and the claim lines of points with the reference on families of listings, and the
+//! program with the examples. Counted are: each family, each example, and that no answer is rare.
 
 use reference::Answer;
 use std::fs;
 use std::path::{Path, PathBuf};
 use std::process::{Command, ExitCode};
+use trials::claim_lines::{compare_parts, listings, part_of_reference, Part, PartTally};
 use trials::{all, compare, of_reference, Count, Tally, Verdict};
 
 fn main() -> ExitCode {
     let mut count = Count::default();
     compare_families(&mut count);
+    compare_claim_lines(&mut count);
     try_examples(&mut count);
-    println!("counted: each family of listings, each example, and once that no answer is rare");
+    println!(
+        "counted: each family of listings for the checker and for claim lines, each example, and for each of the two"
+    );
+    println!("once that no answer is rare");
     count.finish()
 }
 
@@ -33,6 +38,29 @@ fn compare_families(count: &mut Count) {
     println!("{} all {} listings", whole.row(), whole.total());
     let rare = whole.rare();
     count.test(if rare.is_empty() { Ok(()) } else { Err(format!("rarer than 1 in 1,000 (0 is PASS): {rare:?}")) });
+}
+
+/// The archive's answer; what its wrapper cuts out of the listing is the part that it names.
+fn part_of_archive(listing: &[u8], point: u64) -> Part {
+    let archive::ClaimPart { number, place, offset, length } = archive::claim_part(listing, point as usize);
+    let named = &listing[offset as usize..][..length as usize];
+    assert_eq!(archive::claim_lines(listing, point as usize).unwrap_or_default(), named);
+    Part { number, place, offset, length }
+}
+
+fn compare_claim_lines(count: &mut Count) {
+    let mut whole = PartTally::default();
+    println!("{}", PartTally::heading());
+    for family in listings() {
+        let outcome = compare_parts(&family, &part_of_reference, &part_of_archive).map(|tally| {
+            println!("{} {}", tally.row(), family.name);
+            whole.add(&tally);
+        });
+        count.test(outcome.map_err(|difference| format!("first is the reference, second the archive: {difference}")));
+    }
+    println!("{} all {} calls for claim lines", whole.row(), whole.total());
+    let rare = whole.rare();
+    count.test(if rare.is_empty() { Ok(()) } else { Err(format!("claim lines rarer than 1 in 1,000: {rare:?}")) });
 }
 
 fn root() -> PathBuf {

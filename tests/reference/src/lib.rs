@@ -20,7 +20,7 @@ pub use line::{
     read_line, Arithmetic, Claim, Comparison, Instruction, Line, Operand, Stripe, Whole, BOUND_LIMIT, MAX, REGISTERS,
     RESULTS_SIZE, SIZE_LIMIT, TARGETS, TRAYS_SIZE, VARIABLES,
 };
-pub use listing::{claim_lines, read, ClaimLine, Listing, Point, Refusal, LINE_BYTES, LONGEST};
+pub use listing::{claim_lines, claim_span, read, ClaimLine, Listing, Point, Refusal, LINE_BYTES, LONGEST};
 pub use machine::{meets, step, State, Step};
 pub use output::printed;
 pub use runner::{run, Outcome, Run};

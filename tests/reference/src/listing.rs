@@ -5,6 +5,7 @@ use crate::line::{read_line, Claim, Instruction, Line};
 use crate::refusals::{
     BAD_LENGTH, BAD_ORDER, EMPTY_START, ENDS_IN_CLAIM, NO_SUCH_POINT, NO_SUCH_TARGET, RUNS_OFF_THE_END, TOO_MANY_POINTS,
 };
+use std::ops::Range;
 
 pub const LINE_BYTES: usize = 40;
 /// The longest listing in bytes.
@@ -116,11 +117,17 @@ fn stripes(claims: &[ClaimLine]) -> usize {
     claims.iter().filter(|line| matches!(line.claim, Claim::Stripe(_))).count()
 }
 
-/// The part of the listing that holds the claim lines of a point, empty where there are none.
-pub fn claim_lines(bytes: &[u8], point: u64) -> Result<&[u8], Refusal> {
+/// Where the claim lines of a point stand: from the first of them up to its instruction.
+pub fn claim_span(bytes: &[u8], point: u64) -> Result<Range<usize>, Refusal> {
     let listing = read(bytes)?;
     let found = usize::try_from(point).ok().and_then(|point| listing.points.get(point));
     let Some(found) = found else { return Err(Refusal::new(NO_SUCH_POINT, 0)) };
-    let end = (found.line as usize - 1) * LINE_BYTES;
-    Ok(&bytes[end - found.claims.len() * LINE_BYTES..end])
+    let start_of = |line: u64| (line as usize - 1) * LINE_BYTES;
+    let first = found.claims.first().map_or(found.line, |claim| claim.line);
+    Ok(start_of(first)..start_of(found.line))
+}
+
+/// The part of the listing that holds the claim lines of a point, empty where there are none.
+pub fn claim_lines(bytes: &[u8], point: u64) -> Result<&[u8], Refusal> {
+    claim_span(bytes, point).map(|span| &bytes[span])
 }

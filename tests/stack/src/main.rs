@@ -3,7 +3,7 @@
 
 mod painted;
 
-use archive::{check, printed, run, run_in_place, State};
+use archive::{check, claim_part, printed, run, run_in_place, State};
 use lines::listing;
 use painted::stack_of;
 use std::hint::black_box;
@@ -58,6 +58,7 @@ fn main() {
     println!("bytes of stack, the greatest over {} listings", listings().len());
     println!("{:>8} check", greatest(check));
     println!("{:>8} print", greatest(printed));
+    println!("{:>8} claim_lines", greatest(|listing| claim_part(listing, 0)));
     println!("{:>8} run", greatest(|listing| run(listing, state, &[7; 64], &mut [0; 64], BUDGET)));
     println!("{:>8} run_in_place", greatest(in_place));
 }

@@ -1,6 +1,7 @@
-//! Listings and runs from fixed seeds, and the comparison of checkers and of runners on them: where they differ, the
-//! smallest listing or call that still shows it.
+//! Listings and runs from fixed seeds, and the comparison of checkers, of claim lines and of runners on them: where they
+//! differ, the smallest listing or call that still shows it.
 
+pub mod claim_lines;
 pub mod comparison;
 pub mod count;
 pub mod draft;

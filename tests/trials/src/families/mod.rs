@@ -20,6 +20,10 @@ pub struct Family {
 }
 
 impl Family {
+    pub(crate) fn new(name: &'static str, seed: u64, batches: u64, make: fn(&mut Random) -> Vec<Vec<u8>>) -> Family {
+        Family { name, seed, batches, make }
+    }
+
     pub fn batch(&self, batch: u64) -> Vec<Vec<u8>> {
         let seed = Random::new(self.seed.wrapping_mul(1_000_003).wrapping_add(batch)).draw();
         (self.make)(&mut Random::new(seed))
@@ -34,22 +38,21 @@ impl Family {
 
 /// Every family of the comparison; together more than 200,000 listings.
 pub fn all() -> Vec<Family> {
-    let family = |name, seed, batches, make| Family { name, seed, batches, make };
     vec![
-        family("routines that pass, with loops and stripes", 1, 14_000, routines::passing),
-        family("routines with one field nudged", 2, 8_000, nudges::nudged),
-        family("routines with one claim dropped, doubled or moved", 3, 3_000, nudges::rearranged),
-        family("one edge, claims at and beside what follows", 4, 70_000, probes::one_edge),
-        family("chains of one to four links", 5, 16_000, probes::chain),
-        family("accesses at and beside the end of a table", 6, 14_000, probes::access),
-        family("a few random points over few variables", 7, 24_000, probes::jumble),
-        family("stripe bounds shifted at their limits", 8, 6_000, probes::shifted),
-        family("an empty range that the step overwrites", 15, 8_000, probes::emptied),
-        family("damaged text", 9, 6_000, damage::damaged),
-        family("two damages at once", 10, 2_000, damage::damaged_twice),
-        family("fields at and beside their limits", 11, 8_000, limits::fields),
-        family("eight and nine stripes, order of claims", 12, 2_000, limits::claim_order),
-        family("512 and 513 points", 13, 900, limits::many_points),
-        family("65,520 and 65,560 bytes", 14, 60, limits::many_bytes),
+        Family::new("routines that pass, with loops and stripes", 1, 14_000, routines::passing),
+        Family::new("routines with one field nudged", 2, 8_000, nudges::nudged),
+        Family::new("routines with one claim dropped, doubled or moved", 3, 3_000, nudges::rearranged),
+        Family::new("one edge, claims at and beside what follows", 4, 70_000, probes::one_edge),
+        Family::new("chains of one to four links", 5, 16_000, probes::chain),
+        Family::new("accesses at and beside the end of a table", 6, 14_000, probes::access),
+        Family::new("a few random points over few variables", 7, 24_000, probes::jumble),
+        Family::new("stripe bounds shifted at their limits", 8, 6_000, probes::shifted),
+        Family::new("an empty range that the step overwrites", 15, 8_000, probes::emptied),
+        Family::new("damaged text", 9, 6_000, damage::damaged),
+        Family::new("two damages at once", 10, 2_000, damage::damaged_twice),
+        Family::new("fields at and beside their limits", 11, 8_000, limits::fields),
+        Family::new("eight and nine stripes, order of claims", 12, 2_000, limits::claim_order),
+        Family::new("512 and 513 points", 13, 900, limits::many_points),
+        Family::new("65,520 and 65,560 bytes", 14, 60, limits::many_bytes),
     ]
 }

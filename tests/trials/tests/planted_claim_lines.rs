@@ -1,0 +1,62 @@
+//! A reader that is wrong on purpose about claim lines is found out, and the listing that shows it is small.
+
+use lines::LINE;
+use trials::claim_lines::{compare_parts, listings, part_of_reference, Part, PartDifference};
+use trials::shrink::is_claim;
+
+/// The first difference between the reference and a wrong reader, in the family whose name has this part.
+fn found(part: &str, wrong: &dyn Fn(&[u8], u64) -> Part) -> Box<PartDifference> {
+    let family = listings().into_iter().find(|family| family.name.contains(part)).expect("the family exists");
+    let difference = compare_parts(&family, &part_of_reference, wrong).expect_err("the planted difference is found");
+    println!("{difference}");
+    difference
+}
+
+/// A wrong reader that takes the first place where the same bytes stand.
+fn first_of_equal(listing: &[u8], point: u64) -> Part {
+    let part = part_of_reference(listing, point);
+    let lines = &listing[part.offset as usize..][..part.length as usize];
+    let first = listing.windows(lines.len().max(1)).step_by(LINE).position(|other| other == lines);
+    Part { offset: first.map_or(part.offset, |line| (line * LINE) as u64), ..part }
+}
+
+/// A wrong reader that looks for the point before it reads the listing.
+fn point_first(listing: &[u8], point: u64) -> Part {
+    let points = listing.chunks(LINE).filter(|line| !is_claim(line)).count() as u64;
+    if point < points {
+        return part_of_reference(listing, point);
+    }
+    Part { number: 16, place: 0, offset: 0, length: 0 }
+}
+
+/// A wrong reader that has an empty part for the point right after the last.
+fn one_point_more(listing: &[u8], point: u64) -> Part {
+    let part = part_of_reference(listing, point);
+    let last = point.checked_sub(1).map(|last| part_of_reference(listing, last));
+    if part.number == 16 && last.is_some_and(|last| last.number == 0) {
+        return Part { number: 0, place: 0, offset: 0, length: 0 };
+    }
+    part
+}
+
+#[test]
+fn the_wrong_one_of_two_equal_parts_is_found() {
+    let difference = found("equal claim lines", &first_of_equal);
+    assert_eq!((difference.left.number, difference.right.number), (0, 0));
+    assert_eq!(difference.left.length, difference.right.length);
+    assert!(difference.left.offset > difference.right.offset);
+}
+
+#[test]
+fn a_point_looked_for_too_soon_is_found() {
+    let difference = found("damaged text", &point_first);
+    assert!((1..=11).contains(&difference.left.number));
+    assert_eq!(difference.right.number, 16);
+}
+
+#[test]
+fn a_point_too_many_is_found() {
+    let difference = found("equal claim lines", &one_point_more);
+    assert_eq!((difference.left.number, difference.right.number), (16, 0));
+    assert_eq!(difference.listing.len(), difference.point as usize * LINE, "every line a point, and no claims");
+}
