@@ -1,7 +1,7 @@
 //! The worked listings C1 to C10 with their variants, and what the runner makes of C3 and C7.
 
 use lines::listing;
-use reference::{check, claim_lines, printed, run, Answer, Outcome, Refusal, State};
+use reference::{check, claim_lines, claim_span, printed, run, Answer, Outcome, Refusal, State};
 
 const MAX: u32 = u32::MAX;
 
@@ -144,6 +144,11 @@ fn claim_lines_are_a_part_of_the_listing() {
     assert_eq!(claim_lines(&c6, 2), Ok(&[][..]));
     assert_eq!(claim_lines(&c6, 6).unwrap_err().number, 16);
     assert_eq!(claim_lines(&c6[..40], 0).unwrap_err().number, 7);
+    // of equal claim lines, the point's own
+    assert_eq!(claim_span(&c6, 0), Ok(0..40));
+    assert_eq!(claim_span(&c6, 1), Ok(2 * 40..3 * 40));
+    assert_eq!(claim_span(&c6, 2), Ok(4 * 40..4 * 40));
+    assert_eq!(claim_span(&c6, u64::MAX), Err(Refusal { number: 16, place: 0, second: 0 }));
     // 12 to 14 are not tested for claim lines
     assert_eq!(claim_lines(&c4(""), 0), Ok(&c4("")[..80]));
 }
