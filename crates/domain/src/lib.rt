@@ -25,19 +25,19 @@ ghost use Rattle.model.proofs.Limits.{ClaimLimited, Limited};
 ghost use Rattle.goals.specs.Rows.{SizedRows};
 ghost use Rattle.domain.specs.Known.{rangesOf, known, Ends, AtPoint, AlongEdge};
 
-// Writes the ranges of a point that claims nothing.
+// Writes the ranges of a point that claims nothing: all registers have the same range, and so have both sizes.
 pub fn unclaimed<'a>(low: &'a mut [u64; 18], high: &'a mut [u64; 18])
     ensures { λ r. ⌜ rangesOf (now (low .exit)) (now (high .exit)) ≡ Model.unclaimed .ranges ⌝ }
     ensures { λ r. ⌜ Ends (now (low .exit)) (now (high .exit)) ⌝ }
 {
-    let r = Range::REGISTER;
-    let s = Range::SIZE;
-    *low = [r.lo; 18];
-    *high = [r.hi; 18];
-    low[16] = s.lo;
-    low[17] = s.lo;
-    high[16] = s.hi;
-    high[17] = s.hi;
+    let register = Range::unclaimed(0);
+    let size = Range::unclaimed(16);
+    *low = [register.lo; 18];
+    *high = [register.hi; 18];
+    low[16] = size.lo;
+    low[17] = size.lo;
+    high[16] = size.hi;
+    high[17] = size.hi;
 }
 
 // One claim more: a new end, or a stripe after the first n rows. The answer is how many rows there are then.

@@ -49,10 +49,7 @@ pub(crate) fn range_at<'a>(low: &'a [u64; 18], high: &'a [u64; 18], v: usize) ->
     requires { ⌜ v < variables ⌝ }
     ensures { λ r. ⌜ (r ≡ rangeOf (rangesOf (now (low .entry)) (now (high .entry))) v) × Word r ⌝ }
 {
-    Range {
-        lo: low[v],
-        hi: high[v],
-    }
+    Range::between(low[v], high[v])
 }
 
 // The range of an operand.
@@ -81,10 +78,7 @@ fn sum(r: Range, q: Range) -> Range
     ensures { λ s. ⌜ s ≡ cond (sumFits r q) (sumRange r q) registerRange ⌝ }
 {
     if sum_fits(r, q) {
-        Range {
-            lo: r.lo + q.lo,
-            hi: r.hi + q.hi,
-        }
+        Range::between(r.lo + q.lo, r.hi + q.hi)
     } else {
         Range::REGISTER
     }
@@ -103,12 +97,9 @@ fn whole_difference(r: Range, q: Range) -> Range
     ensures { λ s. ⌜ s ≡ differenceRange r q ⌝ }
 {
     if r.hi < q.lo {
-        return Range { lo: 1, hi: 0 };
+        return Range::nothing();
     }
-    Range {
-        lo: r.lo - q.hi,
-        hi: r.hi - q.lo,
-    }
+    Range::between(r.lo - q.hi, r.hi - q.lo)
 }
 
 // The range of a difference.
@@ -136,10 +127,7 @@ fn product(r: Range, q: Range) -> Range
     ensures { λ s. ⌜ s ≡ cond (productFits r q) (productRange r q) registerRange ⌝ }
 {
     if product_fits(r, q) {
-        Range {
-            lo: r.lo * q.lo,
-            hi: r.hi * q.hi,
-        }
+        Range::between(r.lo * q.lo, r.hi * q.hi)
     } else {
         Range::REGISTER
     }
@@ -150,13 +138,10 @@ fn quotient(r: Range, q: Range) -> Range
     ensures { λ s. ⌜ s ≡ quotientRange r q ⌝ }
 {
     if q.hi == 0 {
-        return Range { lo: 1, hi: 0 };
+        return Range::nothing();
     }
     let least = larger(q.lo, 1);
-    Range {
-        lo: r.lo / q.hi,
-        hi: r.hi / least,
-    }
+    Range::between(r.lo / q.hi, r.hi / least)
 }
 
 // The values of so many bytes.
@@ -164,12 +149,9 @@ fn loaded(w: Width) -> Range
     ensures { λ r. ⌜ r ≡ between 0 (256 ^ bytesOf w - 1) ⌝ }
 {
     match w {
-        Width::One => Range { lo: 0, hi: 255 },
-        Width::Two => Range { lo: 0, hi: 65_535 },
-        Width::Four => Range {
-            lo: 0,
-            hi: 4_294_967_295,
-        },
+        Width::One => Range::between(0, 255),
+        Width::Two => Range::between(0, 65_535),
+        Width::Four => Range::REGISTER,
     }
 }
 
@@ -178,10 +160,10 @@ fn below(e: u64, r: Range) -> Range
     ensures { λ s. ⌜ s ≡ Model.below e r ⌝ }
 {
     if e == 0 {
-        return Range { lo: 1, hi: 0 };
+        return Range::nothing();
     }
     let hi = smaller(r.hi, e - 1);
-    Range { lo: r.lo, hi }
+    Range::between(r.lo, hi)
 }
 
 // The low end at least e.
@@ -189,7 +171,7 @@ fn at_least(e: u64, r: Range) -> Range
     ensures { λ s. ⌜ s ≡ atLeast e r ⌝ }
 {
     let lo = larger(r.lo, e);
-    Range { lo, hi: r.hi }
+    Range::between(lo, r.hi)
 }
 
 // The high end at most e.
@@ -197,7 +179,7 @@ fn at_most(e: u64, r: Range) -> Range
     ensures { λ s. ⌜ s ≡ atMost e r ⌝ }
 {
     let hi = smaller(r.hi, e);
-    Range { lo: r.lo, hi }
+    Range::between(r.lo, hi)
 }
 
 // What two ranges share.
@@ -206,7 +188,7 @@ fn overlap(r: Range, q: Range) -> Range
 {
     let lo = larger(r.lo, q.lo);
     let hi = smaller(r.hi, q.hi);
-    Range { lo, hi }
+    Range::between(lo, hi)
 }
 
 // A low end equal to c moved up by 1.
@@ -235,7 +217,7 @@ fn without(c: u64, r: Range) -> Range
 {
     let lo = low_without(c, r.lo);
     let hi = high_without(c, r.hi);
-    Range { lo, hi }
+    Range::between(lo, hi)
 }
 
 // The range that ADDW gives.

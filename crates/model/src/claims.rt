@@ -4,6 +4,7 @@ use crate::machine::Instruction;
 ghost use mathlib.Core.Path.{_≡_};
 ghost use Rattle.model.specs.Facts;
 ghost use Rattle.model.specs.Facts.{unclaimedRange};
+ghost use Rattle.model.specs.Transfer;
 
 // The values from lo to hi; empty where lo is above hi.
 pub struct Range {
@@ -31,7 +32,14 @@ impl Range {
     pub fn exactly(c: u64) -> Range
         ensures { λ r. ⌜ r ≡ Facts.exactly c ⌝ }
     {
-        Range { lo: c, hi: c }
+        Range::between(c, c)
+    }
+
+    // A range that holds nothing.
+    pub fn nothing() -> Range
+        ensures { λ r. ⌜ r ≡ Transfer.nothing ⌝ }
+    {
+        Range::between(1, 0)
     }
 
     // The unclaimed range of a variable.

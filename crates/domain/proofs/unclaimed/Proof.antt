@@ -1,14 +1,40 @@
 -- The filled arrays are the unclaimed ranges, by computation. Assumes nothing.
 use borrow.Author.Needs.{needs}
-use mathlib.Core.Path.{refl}
-use Prim.Native.Nat.{_+_}
+use mathlib.Core.Path.{_≡_, refl, sym, subst₂}
+use mathlib.Core.List.{List}
+use Prim.Native.Nat.{ℕ, _+_}
 use native.Mathlib.Omega.{arith}
 use lib.ListN.{set, replicate}
+use Rattle.model.specs.declared.claims.Range.{Range}
 use Rattle.model.specs.Limits.{registers, variables, MAX, greatestSize}
+use Rattle.model.specs.Facts as Model
 use Rattle.goals.proofs.Written.{filled, set-numbers}
-use Rattle.domain.specs.Known.{rangesOf}
+use Rattle.domain.specs.Known.{rangesOf, Ends}
 use Rattle.domain.proofs.unclaimed.Statement.{statement}
 use Rattle.domain.proofs.unclaimed.Tie as tie
+
+-- an end for each register, and another for both sizes
+abbrev ends : ℕ → ℕ → List ℕ
+ends r s = set (set (replicate variables r) registers s) (registers + 1) s
+
+abbrev Laid : Range → Range → Type 0
+Laid r s = (rangesOf (ends (r .lo) (s .lo)) (ends (r .hi) (s .hi)) ≡ Model.unclaimed .ranges) × Ends (ends (r .lo) (s .lo)) (ends (r .hi) (s .hi))
+
+laid : Laid Model.registerRange Model.sizeRange
+unfolding rangesOf
+laid = (
+  refl,
+  record {
+    lows = set-numbers variables MAX (set (replicate variables 0) registers 0) (registers + 1) 0 (omega arith) (set-numbers variables MAX (replicate variables 0) registers 0 (omega arith) (filled variables MAX 0 (omega arith)));
+    highs = set-numbers variables MAX (set (replicate variables MAX) registers greatestSize) (registers + 1) greatestSize (omega arith) (set-numbers variables MAX (replicate variables MAX) registers greatestSize (omega arith) (filled variables MAX MAX (omega arith)));
+  },
+)
+
+unclaimed-requires : tie.Need-unclaimed-requires
+unclaimed-requires c κs = search needs
+
+unclaimed-requires-2 : tie.Need-unclaimed-requires-2
+unclaimed-requires-2 c κs = search needs
 
 element-write-low : tie.Need-element-write-low
 element-write-low c = search needs
@@ -23,19 +49,14 @@ element-write-high-2 : tie.Need-element-write-high-2
 element-write-high-2 c = search needs
 
 returns : tie.Need-returns
-unfolding rangesOf
-returns c = (
-  refl,
-  record {
-    lows = set-numbers variables MAX (set (replicate variables 0) registers 0) (registers + 1) 0 (omega arith) (set-numbers variables MAX (replicate variables 0) registers 0 (omega arith) (filled variables MAX 0 (omega arith)));
-    highs = set-numbers variables MAX (set (replicate variables MAX) registers greatestSize) (registers + 1) greatestSize (omega arith) (set-numbers variables MAX (replicate variables MAX) registers greatestSize (omega arith) (filled variables MAX MAX (omega arith)));
-  },
-)
+returns c = subst₂ Laid (sym (c .before .before .before .unclaimed .ensures)) (sym (c .before .before .unclaimed2 .ensures)) laid
 
 pub unclaimed-spec : {M : Type 1} → statement M
 unclaimed-spec =
     tie.close
     (tie.spec
+    unclaimed-requires
+    unclaimed-requires-2
     element-write-low
     element-write-low-2
     element-write-high

@@ -5,8 +5,11 @@ use Rattle.domain.proofs.ranges.at_most.Tie as tie
 smaller-requires : tie.Need-smaller-requires
 smaller-requires c κs = search needs
 
+between-requires : tie.Need-between-requires
+between-requires c κs = search needs
+
 returns : tie.Need-returns
 returns c = cc
 
 pub at-most-spec : {M : Type 1} → statement M
-at-most-spec = tie.close (tie.spec smaller-requires returns)
+at-most-spec = tie.close (tie.spec smaller-requires between-requires returns)

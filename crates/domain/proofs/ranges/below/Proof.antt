@@ -3,8 +3,11 @@ use borrow.Author.Tests.{eq-eqb, ne-eqb}
 use Rattle.domain.proofs.ranges.below.Statement.{statement}
 use Rattle.domain.proofs.ranges.below.Tie as tie
 
+nothing-requires : tie.Need-nothing-requires
+nothing-requires c κs = search needs
+
 returns : tie.Need-returns
-returns c = rw (eq-eqb _ _ (c .if1 .taken))
+returns c = rw (eq-eqb _ _ (c .before .if1 .taken)) (c .nothing .ensures)
 
 sub-smaller : tie.Need-sub-smaller
 sub-smaller c = search needs
@@ -12,8 +15,13 @@ sub-smaller c = search needs
 smaller-requires : tie.Need-smaller-requires
 smaller-requires c κs = search needs
 
+between-requires : tie.Need-between-requires
+between-requires c κs = search needs
+
 returns-2 : tie.Need-returns-2
-returns-2 c = rw (ne-eqb _ _ (c .before .if1 .left)) (cc)
+returns-2 c = rw (ne-eqb _ _ (c .before .before .if1 .left)) (cc)
 
 pub below-spec : {M : Type 1} → statement M
-below-spec = tie.close (tie.spec returns sub-smaller smaller-requires returns-2)
+below-spec =
+    tie.close
+    (tie.spec nothing-requires returns sub-smaller smaller-requires between-requires returns-2)

@@ -8,8 +8,11 @@ larger-requires c κs = search needs
 smaller-requires : tie.Need-smaller-requires
 smaller-requires c κs = search needs
 
+between-requires : tie.Need-between-requires
+between-requires c κs = search needs
+
 returns : tie.Need-returns
 returns c = cc
 
 pub overlap-spec : {M : Type 1} → statement M
-overlap-spec = tie.close (tie.spec larger-requires smaller-requires returns)
+overlap-spec = tie.close (tie.spec larger-requires smaller-requires between-requires returns)

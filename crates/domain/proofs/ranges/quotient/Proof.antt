@@ -3,20 +3,35 @@ use borrow.Author.Tests.{eq-eqb, ne-eqb}
 use Rattle.domain.proofs.ranges.quotient.Statement.{statement}
 use Rattle.domain.proofs.ranges.quotient.Tie as tie
 
+nothing-requires : tie.Need-nothing-requires
+nothing-requires c κs = search needs
+
 returns : tie.Need-returns
-returns c = rw (eq-eqb _ _ (c .if1 .taken))
+returns c = rw (eq-eqb _ _ (c .before .if1 .taken)) (c .nothing .ensures)
 
 larger-requires : tie.Need-larger-requires
 larger-requires c κs = search needs
 
-div-t5 : tie.Need-div-t5
-div-t5 c = search needs
+div-between : tie.Need-div-between
+div-between c = search needs
 
-div-t6 : tie.Need-div-t6
-div-t6 c = search needs
+div-between-2 : tie.Need-div-between-2
+div-between-2 c = search needs
+
+between-requires : tie.Need-between-requires
+between-requires c κs = search needs
 
 returns-2 : tie.Need-returns-2
-returns-2 c = rw (ne-eqb _ _ (c .before .before .before .before .if1 .left)) (cc)
+returns-2 c = rw (ne-eqb _ _ (c .before .before .before .before .before .if1 .left)) (cc)
 
 pub quotient-spec : {M : Type 1} → statement M
-quotient-spec = tie.close (tie.spec returns larger-requires div-t5 div-t6 returns-2)
+quotient-spec =
+    tie.close
+    (tie.spec
+    nothing-requires
+    returns
+    larger-requires
+    div-between
+    div-between-2
+    between-requires
+    returns-2)

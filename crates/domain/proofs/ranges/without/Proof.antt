@@ -8,8 +8,12 @@ low-without-requires c κs = search needs
 high-without-requires : tie.Need-high-without-requires
 high-without-requires c κs = search needs
 
+between-requires : tie.Need-between-requires
+between-requires c κs = search needs
+
 returns : tie.Need-returns
 returns c = cc
 
 pub without-spec : {M : Type 1} → statement M
-without-spec = tie.close (tie.spec low-without-requires high-without-requires returns)
+without-spec =
+    tie.close (tie.spec low-without-requires high-without-requires between-requires returns)
