@@ -1,6 +1,8 @@
 // Files read whole, and written beside and then renamed.
 use libc::STDERR_FILENO;
-ghost use Rattle.io.specs.Counts.{Counts};
+ghost use mathlib.Core.Path.{_≡_};
+ghost use Rattle.saved.specs.Names.{newName};
+ghost use Rattle.run_listing.specs.Program.{isWhole};
 
 // Says what is wrong with a file, and why.
 pub fn say(path: &[u8], why: &[u8]) {
@@ -11,23 +13,34 @@ pub fn say(path: &[u8], why: &[u8]) {
     io::write_all(STDERR_FILENO, b"\n");
 }
 
-// Whether the file ends here; one that has more is taken up to the size of the buffer, which no listing and no table may have.
-pub fn is_read(fd: i32, path: &[u8], n: usize, size: usize) -> bool {
-    let mut rest = [0u8; 1];
-    let more = libc::read(fd, &mut rest);
-    libc::close(fd);
+// Whether n bytes are the whole of a file, from what a read after them answered. One that has more is taken up to the size of the
+// buffer, which no listing and no table may have.
+fn is_whole(more: isize, n: usize, size: usize) -> bool
+    ensures { λ r. ⌜ r ≡ isWhole more n size ⌝ }
+{
     if more < 0 {
-        os::fail(path);
         return false;
     }
     if n == size {
         return true;
     }
-    if more > 0 {
-        say(path, b"it could not be read whole");
+    more == 0
+}
+
+// Closes a file of which n bytes were read, and says what is wrong where these are not the whole of it.
+pub fn is_read(fd: i32, path: &[u8], n: usize, size: usize) -> bool {
+    let mut rest = [0u8; 1];
+    let more = libc::read(fd, &mut rest);
+    libc::close(fd);
+    if is_whole(more, n, size) {
+        return true;
+    }
+    if more < 0 {
+        os::fail(path);
         return false;
     }
-    true
+    say(path, b"it could not be read whole");
+    false
 }
 
 // Opens a file for reading, or says why it cannot be.
@@ -51,29 +64,6 @@ pub fn is_there(path: &[u8]) -> bool {
     }
     libc::close(fd);
     true
-}
-
-// The name of the file that is written beside another: the same with .new at its end. 0 where that is too long.
-pub fn beside(path: &[u8], name: &mut [u8]) -> usize
-    ensures { λ r. ⌜ Counts r (now (name .exit)) ⌝ }
-{
-    let n = path.len();
-    if 4000 < n {
-        return 0;
-    }
-    if name.len() < 4096 {
-        return 0;
-    }
-    let mut i = 0;
-    while i < n {
-        name[i] = path[i];
-        i += 1;
-    }
-    name[n] = b'.';
-    name[n + 1] = b'n';
-    name[n + 2] = b'e';
-    name[n + 3] = b'w';
-    n + 4
 }
 
 // Makes a new file with these bytes. Where that fails, it says why and leaves no such file.
@@ -112,7 +102,10 @@ pub fn replace_both(
     second: &[u8],
     second_new: &[u8],
     second_bytes: &[u8],
-) -> bool {
+) -> bool
+    requires { ⌜ now «first_new» ≡ newName (now first) ⌝ }
+    requires { ⌜ now «second_new» ≡ newName (now second) ⌝ }
+{
     if !write_new(first_new, first_bytes) {
         return false;
     }

@@ -2,7 +2,6 @@
 // replaces the results and the state, and prints one line. A refusal or an error changes no file.
 mod files;
 
-use crate::files::beside;
 use crate::files::is_read;
 use crate::files::is_there;
 use crate::files::open;
@@ -11,15 +10,72 @@ use crate::files::say;
 use libc::STDERR_FILENO;
 use libc::STDOUT_FILENO;
 use model::answers::Report;
-use model::machine::State;
 use saved::answer::answer_line;
+use saved::names::beside;
 use saved::numbers::Parsed;
 use saved::numbers::parse;
 use saved::states::read_state;
 use saved::states::write_state;
+ghost use mathlib.Core.Path.{_≡_};
+ghost use Rattle.saved.specs.Numbers.{numberIn};
+ghost use Rattle.run_listing.specs.Program.{stepsOf, runOf, lineOf, isMade, Leaves, Saves};
 
-// Replaces the results and the state by what a run handed back.
-fn is_saved(results: &[u8], state: State) -> bool {
+// The steps that a budget allows.
+fn steps_of(amount: &[u8]) -> u32
+    ensures { λ r. ⌜ r ≡ stepsOf (numberIn (now (amount .entry))) ⌝ }
+{
+    match parse(amount) {
+        Parsed::Number(n) => n,
+        Parsed::NoNumber => 0,
+    }
+}
+
+// Whether a run was made, and has something to save.
+fn is_made(report: Report) -> bool
+    ensures { λ r. ⌜ r ≡ isMade report ⌝ }
+{
+    match report {
+        Report::Stopped => true,
+        Report::Paused => true,
+        Report::Refused(_) => false,
+    }
+}
+
+// The run of the bytes that were read: it changes the results, and writes the line to print and the text of the state to save. The
+// answer is whether the run was made.
+fn run_of(
+    listing: &[u8],
+    trays: &[u8],
+    results: &mut [u8],
+    text: &[u8],
+    amount: &[u8],
+    line: &mut [u8; 40],
+    after: &mut [u8; 680],
+) -> bool
+    ensures { λ r. ⌜ Leaves (runOf (now (listing .entry)) (now (trays .entry)) (now (results .entry)) (now (text .entry)) (now (amount .entry))) r (now (results .exit)) (now (after .exit)) (now (line .exit)) ⌝ }
+{
+    let s = read_state(text);
+    let state = s.state;
+    let o = runner::run(listing, state, trays, results, steps_of(amount));
+    let report = o.report;
+    let end = o.state;
+    *line = answer_line(report, end.point, o.steps);
+    *after = write_state(end);
+    is_made(report)
+}
+
+// Replaces the results and the state by what a run handed back: a caller that has anything else to save is refused.
+fn is_saved(
+    listing: &[u8],
+    trays: &[u8],
+    before: &[u8],
+    text: &[u8],
+    amount: &[u8],
+    results: &[u8],
+    after: &[u8; 680],
+) -> bool
+    requires { ⌜ Saves (runOf (now listing) (now trays) (now before) (now text) (now amount)) (now results) (now after) ⌝ }
+{
     let mut first = io::buffer();
     let n = os::arg(3, &mut first);
     let mut first_new = [0u8; 4096];
@@ -28,42 +84,46 @@ fn is_saved(results: &[u8], state: State) -> bool {
     let m = os::arg(4, &mut second);
     let mut second_new = [0u8; 4096];
     let m_new = beside(&second[..m], &mut second_new);
-    let text = write_state(state);
     replace_both(
         &first[..n],
         &first_new[..n_new],
         results,
         &second[..m],
         &second_new[..m_new],
-        &text,
+        after,
     )
 }
 
-// Whether a run changed what has to be saved.
-fn is_made(report: Report) -> bool {
-    match report {
-        Report::Stopped => true,
-        Report::Paused => true,
-        Report::Refused(_) => false,
-    }
+// Prints the line of a run: a caller that has another line is refused.
+fn print(listing: &[u8], trays: &[u8], before: &[u8], text: &[u8], amount: &[u8], line: &[u8; 40])
+    requires { ⌜ now line ≡ lineOf (runOf (now listing) (now trays) (now before) (now text) (now amount)) ⌝ }
+{
+    io::write_all(STDOUT_FILENO, line);
 }
 
-// Runs, saves and prints.
-fn run_on(listing: &[u8], state: State, trays: &[u8], results: &mut [u8], budget: u32) {
-    let o = runner::run(listing, state, trays, results, budget);
-    let report = o.report;
-    let after = o.state;
-    let line = answer_line(report, after.point, o.steps);
-    if is_made(report) {
-        if !is_saved(results, after) {
+// Runs, saves and prints. The results before the run are lent too, since what is saved and printed is what the run makes of them.
+fn run_on(
+    listing: &[u8],
+    trays: &[u8],
+    before: &[u8],
+    results: &mut [u8],
+    text: &[u8],
+    amount: &[u8],
+)
+    requires { ⌜ now before ≡ now results ⌝ }
+{
+    let mut line = [0u8; 40];
+    let mut after = [0u8; 680];
+    if run_of(listing, trays, results, text, amount, &mut line, &mut after) {
+        if !is_saved(listing, trays, before, text, amount, results, &after) {
             return;
         }
     }
-    io::write_all(STDOUT_FILENO, &line);
+    print(listing, trays, before, text, amount, &line);
 }
 
 // Reads the results, and then runs.
-fn with_results(listing: &[u8], state: State, trays: &[u8], budget: u32) {
+fn with_results(listing: &[u8], trays: &[u8], text: &[u8], amount: &[u8]) {
     let mut path = io::buffer();
     let n = os::arg(3, &mut path);
     let fd = open(&path[..n]);
@@ -73,7 +133,15 @@ fn with_results(listing: &[u8], state: State, trays: &[u8], budget: u32) {
     let mut results = [0u8; 65537];
     let m = io::read_full(fd, &mut results);
     if is_read(fd, &path[..n], m, 65537) {
-        run_on(listing, state, trays, &mut results[..m], budget);
+        let before = results;
+        run_on(
+            listing,
+            trays,
+            &before[..m],
+            &mut results[..m],
+            text,
+            amount,
+        );
     }
 }
 
@@ -91,7 +159,7 @@ fn is_left_over(i: usize, why: &[u8]) -> bool {
 }
 
 // Reads the state, and then the rest.
-fn with_state(listing: &[u8], trays: &[u8], budget: u32) {
+fn with_state(listing: &[u8], trays: &[u8], amount: &[u8]) {
     let mut path = io::buffer();
     let n = os::arg(4, &mut path);
     let fd = open(&path[..n]);
@@ -105,8 +173,7 @@ fn with_state(listing: &[u8], trays: &[u8], budget: u32) {
     }
     let saved = read_state(&text[..m]);
     if saved.whole {
-        let state = saved.state;
-        with_results(listing, state, trays, budget);
+        with_results(listing, trays, &text[..m], amount);
         return;
     }
     say(
@@ -116,7 +183,7 @@ fn with_state(listing: &[u8], trays: &[u8], budget: u32) {
 }
 
 // Reads the trays, and then the rest.
-fn with_trays(listing: &[u8], budget: u32) {
+fn with_trays(listing: &[u8], amount: &[u8]) {
     let mut path = io::buffer();
     let n = os::arg(2, &mut path);
     let fd = open(&path[..n]);
@@ -126,12 +193,12 @@ fn with_trays(listing: &[u8], budget: u32) {
     let mut trays = [0u8; 65537];
     let m = io::read_full(fd, &mut trays);
     if is_read(fd, &path[..n], m, 65537) {
-        with_state(listing, &trays[..m], budget);
+        with_state(listing, &trays[..m], amount);
     }
 }
 
 // Reads the listing, and then the rest.
-fn with_listing(budget: u32) {
+fn with_listing(amount: &[u8]) {
     let mut path = io::buffer();
     let n = os::arg(1, &mut path);
     let fd = open(&path[..n]);
@@ -141,12 +208,12 @@ fn with_listing(budget: u32) {
     let mut listing = [0u8; 65521];
     let m = io::read_full(fd, &mut listing);
     if is_read(fd, &path[..n], m, 65521) {
-        with_trays(&listing[..m], budget);
+        with_trays(&listing[..m], amount);
     }
 }
 
 // The whole work with a budget, where no run was broken off before.
-fn with_budget(budget: u32) {
+fn with_budget(amount: &[u8]) {
     if is_left_over(
         3,
         b"a run was broken off before it changed anything: remove this file",
@@ -159,7 +226,7 @@ fn with_budget(budget: u32) {
     ) {
         return;
     }
-    with_listing(budget);
+    with_listing(amount);
 }
 
 fn main() {
@@ -173,7 +240,7 @@ fn main() {
     let mut text = [0u8; 16];
     let n = os::arg(5, &mut text);
     match parse(&text[..n]) {
-        Parsed::Number(budget) => with_budget(budget),
+        Parsed::Number(_) => with_budget(&text[..n]),
         Parsed::NoNumber => {
             io::write_all(
                 STDERR_FILENO,

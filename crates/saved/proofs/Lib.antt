@@ -2,3 +2,4 @@ pub mod Lining
 pub mod Saving
 pub mod Worked
 pub mod Numbering
+pub mod Naming

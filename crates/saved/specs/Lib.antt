@@ -1,3 +1,4 @@
 pub mod States
 pub mod Answer
 pub mod Numbers
+pub mod Names

@@ -1,0 +1,24 @@
+-- The number that was parsed. Assumes nothing.
+use borrow.Author.Needs.{needs}
+use mathlib.Core.Path.{ap, sym, _∙_}
+use Rattle.run_listing.specs.Program.{stepsOf}
+use Rattle.run_listing.proofs.steps_of.Statement.{statement}
+use Rattle.run_listing.proofs.steps_of.Tie as tie
+
+parse-requires : tie.Need-parse-requires
+parse-requires c κs = search needs
+
+enum-known-n : tie.Need-enum-known-n
+enum-known-n c = search needs
+
+enum-told : tie.Need-enum-told
+enum-told c = search needs
+
+returns : tie.Need-returns
+returns c = sym (ap stepsOf (sym (c .before .before .before .parse .ensures) ∙ c .before .n .given .1))
+
+returns-2 : tie.Need-returns-2
+returns-2 c = sym (ap stepsOf (sym (c .before .before .parse .ensures) ∙ c .enum-told .given .1))
+
+pub steps-of-spec : {M : Type 1} → statement M
+steps-of-spec = tie.close (tie.spec parse-requires enum-known-n enum-told returns returns-2)

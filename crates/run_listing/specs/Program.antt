@@ -1,0 +1,54 @@
+-- What the program makes of the bytes of its files: the run, the line that it prints, and what it saves.
+-- A file is read up to the size of a buffer, and then asked for one byte more: 0 says that it ended there, a number above 0 that there
+-- is more, and one below 0 that reading failed.
+use Prim.Native.Nat.{ℕ}
+use mathlib.Core.Path.{_≡_}
+use mathlib.Core.Bool.{Bool, true, false, _||_}
+use mathlib.Core.List.{List}
+use lib.Dec.{eqb}
+use lib.IntN.{ℤ, pos, negsuc}
+use Rattle.model.specs.declared.answers.Report.{Report}
+use Rattle.model.specs.declared.answers.Report.the-variants.{Stopped, Paused, Refused as notRun}
+use Rattle.model.specs.Run.{Ran, run}
+use Rattle.saved.specs.declared.numbers.Parsed.{Parsed}
+use Rattle.saved.specs.declared.numbers.Parsed.the-variants.{Number, NoNumber}
+use Rattle.saved.specs.Numbers.{numberIn}
+use Rattle.saved.specs.States.{savedIn, textOf}
+use Rattle.saved.specs.Answer.{answerLine}
+
+-- n bytes are the whole of a file: it ended there, or it fills the buffer, which no listing, table or state may do
+abbrev pub isWhole : ℤ → ℕ → ℕ → Bool
+isWhole (pos k) n size = eqb n size || eqb k 0
+isWhole (negsuc k) n size = false
+
+-- the steps that a budget allows; none where it is no number
+abbrev pub stepsOf : Parsed → ℕ
+stepsOf (Number n) = n
+stepsOf NoNumber = 0
+
+-- the run of a listing over trays and results, from the state of a text, with the budget of an argument
+abbrev pub runOf : List ℕ → List ℕ → List ℕ → List ℕ → List ℕ → Ran
+runOf listing trays results text amount = run listing (savedIn text .state) trays results (stepsOf (numberIn amount))
+
+-- the line that is printed for a run
+abbrev pub lineOf : Ran → List ℕ
+lineOf r = answerLine (r .outcome .report) (r .outcome .state .point) (r .outcome .steps)
+
+-- a run that was made, not turned back
+abbrev pub isMade : Report → Bool
+isMade Stopped = true
+isMade Paused = true
+isMade (notRun r) = false
+
+-- what a run leaves: whether it was made, the bytes of the results, the text of the state, and the line
+pub record Leaves (r : Ran) (made : Bool) (rs text line : List ℕ) : Type 0 where
+  pub told : made ≡ isMade (r .outcome .report)
+  pub results : rs ≡ r .results
+  pub state : text ≡ textOf (r .outcome .state)
+  pub answer : line ≡ lineOf r
+
+-- what is saved, of a run that was made: the bytes of the results, and the text of the state
+pub record Saves (r : Ran) (rs text : List ℕ) : Type 0 where
+  pub made : isMade (r .outcome .report) ≡ true
+  pub results : rs ≡ r .results
+  pub state : text ≡ textOf (r .outcome .state)

@@ -1,0 +1,44 @@
+-- The path is put first, and .new after it. Assumes nothing.
+use mathlib.Core.Path.{refl}
+use native.Mathlib.Omega.{arith}
+use borrow.Author.Needs.{needs}
+use borrow.Author.Tests.{lt-leb}
+use Rattle.saved.proofs.Naming.{named}
+use Rattle.saved.proofs.names.beside.Statement.{statement}
+use Rattle.saved.proofs.names.beside.Tie as tie
+
+put-requires : tie.Need-put-requires
+put-requires c κs = search needs
+
+slice-aggregate-put : tie.Need-slice-aggregate-put
+slice-aggregate-put c = search needs
+
+put-requires-2 : tie.Need-put-requires-2
+put-requires-2 c κs = search needs
+
+add-result : tie.Need-add-result
+add-result c = search needs
+
+same-length : tie.Need-same-length
+same-length c = search needs
+
+returns : tie.Need-returns
+returns c =
+    let start = c .before .before .before .before .before .before .before .before .before .before .before .before in
+    let put = c .before .before .before .before .before .before .before .put in
+    named (start .args .path .now) (start .args .name .now) (omega arith) (omega arith) (put .last .0) (c .before .before .put2 .last .0) (put .ensures) (c .before .before .put2 .ensures)
+
+returns-2 : tie.Need-returns-2
+returns-2 c = ((omega arith, refl), rw (lt-leb _ _ (c .if1 .left)) (refl))
+
+pub beside-spec : {M : Type 1} → statement M
+beside-spec =
+    tie.close
+    (tie.spec
+    put-requires
+    slice-aggregate-put
+    put-requires-2
+    add-result
+    same-length
+    returns
+    returns-2)
