@@ -15,7 +15,7 @@ fn line_of(listing: &[u8], more: isize) -> [u8; 40]
     checker::report(&listing[0..0])
 }
 
-// Prints the line of what was read: a caller that has another line is refused.
+// Prints the line of what was read. The prover refuses a caller that has another line.
 fn print(listing: &[u8], more: isize, line: &[u8; 40])
     requires { ⌜ now line ≡ lineOf (now listing) more ⌝ }
 {

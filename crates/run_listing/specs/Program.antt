@@ -26,6 +26,11 @@ abbrev pub stepsOf : Parsed → ℕ
 stepsOf (Number n) = n
 stepsOf NoNumber = 0
 
+-- a budget that is a number
+abbrev pub isNumber : Parsed → Bool
+isNumber (Number n) = true
+isNumber NoNumber = false
+
 -- the run of a listing over trays and results, from the state of a text, with the budget of an argument
 abbrev pub runOf : List ℕ → List ℕ → List ℕ → List ℕ → List ℕ → Ran
 runOf listing trays results text amount = run listing (savedIn text .state) trays results (stepsOf (numberIn amount))

@@ -17,8 +17,10 @@ use saved::numbers::parse;
 use saved::states::read_state;
 use saved::states::write_state;
 ghost use mathlib.Core.Path.{_≡_};
+ghost use mathlib.Core.Bool.{true};
 ghost use Rattle.saved.specs.Numbers.{numberIn};
-ghost use Rattle.run_listing.specs.Program.{stepsOf, runOf, lineOf, isMade, Leaves, Saves};
+ghost use Rattle.saved.specs.States.{savedIn};
+ghost use Rattle.run_listing.specs.Program.{stepsOf, isNumber, runOf, lineOf, isMade, Leaves, Saves};
 
 // The steps that a budget allows.
 fn steps_of(amount: &[u8]) -> u32
@@ -52,6 +54,8 @@ fn run_of(
     line: &mut [u8; 40],
     after: &mut [u8; 680],
 ) -> bool
+    requires { ⌜ savedIn (now text) .whole ≡ true ⌝ }
+    requires { ⌜ isNumber (numberIn (now amount)) ≡ true ⌝ }
     ensures { λ r. ⌜ Leaves (runOf (now (listing .entry)) (now (trays .entry)) (now (results .entry)) (now (text .entry)) (now (amount .entry))) r (now (results .exit)) (now (after .exit)) (now (line .exit)) ⌝ }
 {
     let s = read_state(text);
@@ -64,7 +68,7 @@ fn run_of(
     is_made(report)
 }
 
-// Replaces the results and the state by what a run handed back: a caller that has anything else to save is refused.
+// Replaces the results and the state by what a run handed back. The prover refuses a caller that has anything else to save.
 fn is_saved(
     listing: &[u8],
     trays: &[u8],
@@ -94,7 +98,7 @@ fn is_saved(
     )
 }
 
-// Prints the line of a run: a caller that has another line is refused.
+// Prints the line of a run. The prover refuses a caller that has another line.
 fn print(listing: &[u8], trays: &[u8], before: &[u8], text: &[u8], amount: &[u8], line: &[u8; 40])
     requires { ⌜ now line ≡ lineOf (runOf (now listing) (now trays) (now before) (now text) (now amount)) ⌝ }
 {
@@ -111,6 +115,8 @@ fn run_on(
     amount: &[u8],
 )
     requires { ⌜ now before ≡ now results ⌝ }
+    requires { ⌜ savedIn (now text) .whole ≡ true ⌝ }
+    requires { ⌜ isNumber (numberIn (now amount)) ≡ true ⌝ }
 {
     let mut line = [0u8; 40];
     let mut after = [0u8; 680];
@@ -123,7 +129,10 @@ fn run_on(
 }
 
 // Reads the results, and then runs.
-fn with_results(listing: &[u8], trays: &[u8], text: &[u8], amount: &[u8]) {
+fn with_results(listing: &[u8], trays: &[u8], text: &[u8], amount: &[u8])
+    requires { ⌜ savedIn (now text) .whole ≡ true ⌝ }
+    requires { ⌜ isNumber (numberIn (now amount)) ≡ true ⌝ }
+{
     let mut path = io::buffer();
     let n = os::arg(3, &mut path);
     let fd = open(&path[..n]);
@@ -159,7 +168,9 @@ fn is_left_over(i: usize, why: &[u8]) -> bool {
 }
 
 // Reads the state, and then the rest.
-fn with_state(listing: &[u8], trays: &[u8], amount: &[u8]) {
+fn with_state(listing: &[u8], trays: &[u8], amount: &[u8])
+    requires { ⌜ isNumber (numberIn (now amount)) ≡ true ⌝ }
+{
     let mut path = io::buffer();
     let n = os::arg(4, &mut path);
     let fd = open(&path[..n]);
@@ -183,7 +194,9 @@ fn with_state(listing: &[u8], trays: &[u8], amount: &[u8]) {
 }
 
 // Reads the trays, and then the rest.
-fn with_trays(listing: &[u8], amount: &[u8]) {
+fn with_trays(listing: &[u8], amount: &[u8])
+    requires { ⌜ isNumber (numberIn (now amount)) ≡ true ⌝ }
+{
     let mut path = io::buffer();
     let n = os::arg(2, &mut path);
     let fd = open(&path[..n]);
@@ -198,7 +211,9 @@ fn with_trays(listing: &[u8], amount: &[u8]) {
 }
 
 // Reads the listing, and then the rest.
-fn with_listing(amount: &[u8]) {
+fn with_listing(amount: &[u8])
+    requires { ⌜ isNumber (numberIn (now amount)) ≡ true ⌝ }
+{
     let mut path = io::buffer();
     let n = os::arg(1, &mut path);
     let fd = open(&path[..n]);
@@ -213,7 +228,9 @@ fn with_listing(amount: &[u8]) {
 }
 
 // The whole work with a budget, where no run was broken off before.
-fn with_budget(amount: &[u8]) {
+fn with_budget(amount: &[u8])
+    requires { ⌜ isNumber (numberIn (now amount)) ≡ true ⌝ }
+{
     if is_left_over(
         3,
         b"a run was broken off before it changed anything: remove this file",

@@ -15,7 +15,7 @@ is-saved-requires c κs =
     let start = c .before .before .before .before .before .before .before .before .before .before .before .before .before .before .before in
     let a = start .args in
     let ran = c .before .before .before .before .before .run-of in
-    let left = subst (λ (rs : List ℕ). Leaves (runOf (a .listing .now) (a .trays .now) rs (a .text .now) (a .amount .now)) (ran .result) (ran .last .1 .1 .0) (ran .last .1 .1 .1 .1 .1 .1 .0) (ran .last .1 .1 .1 .1 .1 .0)) (sym (start .pre)) (ran .ensures) in
+    let left = subst (λ (rs : List ℕ). Leaves (runOf (a .listing .now) (a .trays .now) rs (a .text .now) (a .amount .now)) (ran .result) (ran .last .1 .1 .0) (ran .last .1 .1 .1 .1 .1 .1 .0) (ran .last .1 .1 .1 .1 .1 .0)) (sym (start .pre .0)) (ran .ensures) in
     record { made = sym (left .told) ∙ c .before .before .if1 .taken; results = left .results; state = left .state }
 
 same-length : tie.Need-same-length
@@ -29,7 +29,7 @@ print-requires c κs =
     let start = c .before .before .before .before .before .before .before .before .before .before .before .before .before .before in
     let a = start .args in
     let ran = c .before .before .before .before .run-of in
-    let left = subst (λ (rs : List ℕ). Leaves (runOf (a .listing .now) (a .trays .now) rs (a .text .now) (a .amount .now)) (ran .result) (ran .last .1 .1 .0) (ran .last .1 .1 .1 .1 .1 .1 .0) (ran .last .1 .1 .1 .1 .1 .0)) (sym (start .pre)) (ran .ensures) in
+    let left = subst (λ (rs : List ℕ). Leaves (runOf (a .listing .now) (a .trays .now) rs (a .text .now) (a .amount .now)) (ran .result) (ran .last .1 .1 .0) (ran .last .1 .1 .1 .1 .1 .1 .0) (ran .last .1 .1 .1 .1 .1 .0)) (sym (start .pre .0)) (ran .ensures) in
     left .answer
 
 same-length-2 : tie.Need-same-length-2

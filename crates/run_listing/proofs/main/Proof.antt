@@ -1,0 +1,83 @@
+-- The budget was read as a number. Assumes nothing.
+use borrow.Author.Needs.{needs}
+use mathlib.Core.Path.{ap, sym, _∙_}
+use Rattle.run_listing.specs.Program.{isNumber}
+use Rattle.run_listing.proofs.main.Statement.{statement}
+use Rattle.run_listing.proofs.main.Tie as tie
+
+arg-count-requires : tie.Need-arg-count-requires
+arg-count-requires c κs = search needs
+
+slice-aggregate-write-all : tie.Need-slice-aggregate-write-all
+slice-aggregate-write-all c = search needs
+
+write-all-requires : tie.Need-write-all-requires
+write-all-requires c κs = search needs
+
+returns : tie.Need-returns
+returns c = search needs
+
+slice-aggregate-arg : tie.Need-slice-aggregate-arg
+slice-aggregate-arg c = search needs
+
+arg-requires : tie.Need-arg-requires
+arg-requires c κs = search needs
+
+array-share-prefix-text : tie.Need-array-share-prefix-text
+array-share-prefix-text c = search needs
+
+slice-aggregate-parse : tie.Need-slice-aggregate-parse
+slice-aggregate-parse c = search needs
+
+parse-requires : tie.Need-parse-requires
+parse-requires c κs = search needs
+
+enum-told : tie.Need-enum-told
+enum-told c = search needs
+
+array-share-prefix-text-2 : tie.Need-array-share-prefix-text-2
+array-share-prefix-text-2 c = search needs
+
+slice-aggregate-with-budget : tie.Need-slice-aggregate-with-budget
+slice-aggregate-with-budget c = search needs
+
+with-budget-requires : tie.Need-with-budget-requires
+with-budget-requires c κs = ap isNumber (sym (c .before .before .before .parse .ensures) ∙ c .before .enum-told .given .1)
+
+enum-told-2 : tie.Need-enum-told-2
+enum-told-2 c = search needs
+
+slice-aggregate-write-all-2 : tie.Need-slice-aggregate-write-all-2
+slice-aggregate-write-all-2 c = search needs
+
+write-all-requires-2 : tie.Need-write-all-requires-2
+write-all-requires-2 c κs = search needs
+
+returns-2 : tie.Need-returns-2
+returns-2 c = search needs
+
+returns-3 : tie.Need-returns-3
+returns-3 c = search needs
+
+pub main-spec : {M : Type 1} → statement M
+main-spec =
+    tie.close
+    (tie.spec
+    arg-count-requires
+    slice-aggregate-write-all
+    write-all-requires
+    returns
+    slice-aggregate-arg
+    arg-requires
+    array-share-prefix-text
+    slice-aggregate-parse
+    parse-requires
+    enum-told
+    array-share-prefix-text-2
+    slice-aggregate-with-budget
+    with-budget-requires
+    enum-told-2
+    slice-aggregate-write-all-2
+    write-all-requires-2
+    returns-2
+    returns-3)
