@@ -43,8 +43,8 @@ fn is_made(report: Report) -> bool
     }
 }
 
-// The run of the bytes that were read: it changes the results, and writes the line to print and the text of the state to save. The
-// answer is whether the run was made.
+// The run of the bytes that were read, where the text is a state and the budget a number: it changes the results, and writes the line
+// to print and the text of the state to save. The answer is whether the run was made.
 fn run_of(
     listing: &[u8],
     trays: &[u8],

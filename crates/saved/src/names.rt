@@ -5,6 +5,9 @@ ghost use lib.ListN.{length, take};
 ghost use lib.Seq.{paste};
 ghost use Rattle.saved.specs.Names.{newName};
 
+// The longest path that a new file is named after.
+const LONGEST_PATH: usize = 4000;
+
 // Writes bytes into a name from a place on.
 fn put(name: &mut [u8], at: usize, bytes: &[u8])
     requires { ⌜ at + length (now bytes) ≤ length (now name) ⌝ }
@@ -24,7 +27,7 @@ pub fn beside(path: &[u8], name: &mut [u8]) -> usize
     ensures { λ r. ⌜ take r (now (name .exit)) ≡ newName (now (path .entry)) ⌝ }
 {
     let n = path.len();
-    if n <= 4000 {
+    if n <= LONGEST_PATH {
         put(name, 0, path);
         put(name, n, b".new");
         return n + 4;
