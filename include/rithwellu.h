@@ -1,4 +1,5 @@
-/* The checker, the claim lines and the runner for C. Link with target/staticlib/libexports.a (rt staticlib exports). */
+/* The checker, the claim lines and the runner for C. Link with target/staticlib/libexports.a (rt staticlib exports).
+   Every pointer is valid for its length, and none may be null, also where its length is 0. */
 #ifndef RITHWELLU_H
 #define RITHWELLU_H
 

@@ -7,17 +7,18 @@ use trials::families::{guarded_loop, Loop};
 use trials::random::Random;
 
 const MOST_LINES: usize = 1638;
-const LAST: &str = "COPY 0 0";
 
-/// As many lines as may be, well filled, turned back by the very last one (10), so that nothing but reading happens.
-pub fn read_only() -> Vec<u8> {
+/// As many lines as may be, well filled, the last one being `last`. With COPY it is turned back by that line (10), so
+/// that nothing but reading happens; with STOP it is turned back by nothing that reading tests.
+pub fn longest(last: &str) -> Vec<u8> {
     let point = listing(
         "LEAS 1 _ _ _ _ 65536; STRP 17 255 1 2 _ -4398046511104; STRP 16 4 1 _ _ 0; ADDW 12 13 _ _ 1 4294967295",
     );
     let mut text = point.repeat(MOST_LINES / 4);
-    while text.len() < MOST_LINES * LINE {
-        text.extend(listing(LAST));
+    while text.len() < (MOST_LINES - 1) * LINE {
+        text.extend(listing("COPY 0 0"));
     }
+    text.extend(listing(last));
     text
 }
 

@@ -1,7 +1,8 @@
 //! The runs that are timed.
 
 use crate::listings::{small, typical};
-use crate::timing::{ratio, report};
+use crate::rows::{print_row, Rows};
+use crate::timing::ratio;
 use lines::listing;
 use std::cell::RefCell;
 
@@ -45,8 +46,8 @@ fn short(listing: Vec<u8>) -> Timed {
     Timed { listing, count: 20, table: 256, budget: 10 }
 }
 
-pub fn print_rows() {
-    let rows = [
+pub fn print_runs(rows: &mut Rows) {
+    let runs = [
         ("stores of 4 bytes", access_loop(RESULTS, 4, "STOR 2 4 _ 1 0 0")),
         ("loads of 1 byte", access_loop(TRAYS, 1, "LOAD 2 1 0 1 0 0")),
         ("loads of 2 bytes", access_loop(TRAYS, 2, "LOAD 2 2 0 1 0 0")),
@@ -55,11 +56,16 @@ pub fn print_rows() {
         ("budget 10, 6 points", short(small())),
         ("budget 10, 512 points", short(typical(512))),
     ];
-    rows.iter().for_each(|(name, timed)| print_row(name, timed));
+    rows.table("runs, each with its check", "steps");
+    for (name, timed) in &runs {
+        if rows.want(name) {
+            print_run(name, timed);
+        }
+    }
 }
 
 /// The two are timed after they have handed back the same.
-fn print_row(name: &str, timed: &Timed) {
+fn print_run(name: &str, timed: &Timed) {
     let mut registers = [3; 16];
     (registers[0], registers[COUNT]) = (0, timed.count);
     let trays: Vec<u8> = (0..timed.table).map(|at| (at * 37 % 251) as u8).collect();
@@ -84,5 +90,5 @@ fn print_row(name: &str, timed: &Timed) {
     assert_eq!((one.point, one.registers, left.1), (other.point, other.registers, right.1), "{name}");
     assert_eq!(left.0.steps, u64::from(right.0.steps), "{name}");
     let measured = ratio(&|| by_archive().steps, &|| u64::from(by_twin().steps));
-    println!("{}", report(name, left.0.steps as usize, &measured));
+    print_row(name, left.0.steps as usize, &measured);
 }

@@ -4,10 +4,11 @@
 use std::hint::black_box;
 use std::time::Duration;
 
-const ROUNDS: usize = 15;
+const ROUNDS: usize = 31;
 /// In each round the two take turns this often.
-const TURNS: u32 = 8;
-const TURN: Duration = Duration::from_millis(2);
+const TURNS: u32 = 16;
+/// Short against the moments in which other work slows a processor down.
+const TURN: Duration = Duration::from_micros(500);
 
 /// Times of one call in microseconds, and their ratios, each sorted.
 pub struct Measured {
@@ -22,9 +23,15 @@ pub fn ratio(left: &dyn Fn() -> u64, right: &dyn Fn() -> u64) -> Measured {
     let mut measured = Measured { left: Vec::new(), right: Vec::new(), ratios: Vec::new() };
     for _ in 0..ROUNDS {
         let (mut left_time, mut right_time) = (Duration::ZERO, Duration::ZERO);
-        for _ in 0..TURNS {
-            left_time += repeated(left, left_calls);
-            right_time += repeated(right, right_calls);
+        for turn in 0..TURNS {
+            // each goes first as often as the other
+            if turn % 2 == 0 {
+                left_time += repeated(left, left_calls);
+                right_time += repeated(right, right_calls);
+            } else {
+                right_time += repeated(right, right_calls);
+                left_time += repeated(left, left_calls);
+            }
         }
         let (one, other) = (microseconds(left_time, left_calls), microseconds(right_time, right_calls));
         measured.left.push(one);
@@ -80,10 +87,4 @@ fn processor_time() -> Duration {
     let status = unsafe { clock_gettime(THREAD_CLOCK, &mut time) };
     assert_eq!(status, 0, "the thread has a clock");
     Duration::new(time.seconds as u64, time.nanoseconds as u32)
-}
-
-pub fn report(name: &str, size: usize, measured: &Measured) -> String {
-    let Measured { left, right, ratios } = measured;
-    let (least, middle, greatest) = (ratios[0], ratios[ratios.len() / 2], ratios[ratios.len() - 1]);
-    format!("{name:<46} {size:>6} {:>10.1} {:>9.1}   {least:>6.2} {middle:>6.2} {greatest:>6.2}", left[0], right[0])
 }

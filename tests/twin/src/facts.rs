@@ -1,10 +1,8 @@
 //! Ranges and stripes at a point and along its edges. Ends are signed, so that an end below 0 stays below 0.
 
-use crate::read::{Operand, BOUND_LIMIT, LINE, MAX, SIZE_LIMIT};
+use crate::line::{Claim, Operand, BLANK, BOUND_LIMIT, MAX, RESULTS_SIZE, SIZE_LIMIT, TRAYS_SIZE};
 
 pub const VARIABLES: usize = 18;
-/// Stands for a blank z; its greatest value is 0.
-pub const BLANK: u8 = 18;
 const MOST_STRIPES: usize = 10;
 /// Places in front of a point's own stripes, for what an instruction adds.
 const ADDED: usize = 2;
@@ -18,7 +16,7 @@ pub struct Stripe {
     pub b: i64,
 }
 
-/// hi has one place more, for a blank z.
+/// hi has one place more, for a blank z, whose greatest value is 0.
 #[derive(Clone, Copy)]
 pub struct Facts {
     pub lo: [i64; VARIABLES],
@@ -28,46 +26,9 @@ pub struct Facts {
     count: usize,
 }
 
-pub enum Claim {
-    Least(usize, i64),
-    Most(usize, i64),
-    Stripe(Stripe),
-}
-
-/// The number in columns already found to hold one or to be blank: a space counts as a zero before it.
-#[inline]
-fn number(columns: &[u8]) -> i64 {
-    columns.iter().fold(0, |number, byte| number * 10 + i64::from(byte & 15))
-}
-
-#[inline]
-fn bound(columns: &[u8]) -> i64 {
-    match columns.iter().position(|&byte| byte == b'-') {
-        Some(at) => -number(&columns[at + 1..]),
-        None => number(columns),
-    }
-}
-
-/// The claim on a line that has been read before.
-#[inline]
-pub fn claim(line: &[u8; LINE]) -> Claim {
-    let first = number(&line[4..8]);
-    match line[0] {
-        b'L' => Claim::Least(first as usize, number(&line[24..39])),
-        b'M' => Claim::Most(first as usize, number(&line[24..39])),
-        _ => Claim::Stripe(Stripe {
-            x: first as u8,
-            a: number(&line[8..12]) as u8,
-            y: number(&line[12..16]) as u8,
-            z: if line[19] == b' ' { BLANK } else { number(&line[16..20]) as u8 },
-            b: bound(&line[24..39]),
-        }),
-    }
-}
-
 impl Facts {
-    /// What the claim lines of a point say.
-    pub fn at(lines: &[[u8; LINE]]) -> Facts {
+    /// What the claims of a point say.
+    pub fn at(claims: &[Claim]) -> Facts {
         let none = Stripe { x: 0, a: 1, y: 0, z: BLANK, b: 0 };
         let mut facts = Facts {
             lo: [0; VARIABLES],
@@ -76,14 +37,14 @@ impl Facts {
             first: ADDED,
             count: 0,
         };
-        facts.hi[16] = SIZE_LIMIT as i64;
-        facts.hi[17] = SIZE_LIMIT as i64;
+        facts.hi[TRAYS_SIZE as usize] = SIZE_LIMIT as i64;
+        facts.hi[RESULTS_SIZE as usize] = SIZE_LIMIT as i64;
         facts.hi[BLANK as usize] = 0;
-        for line in lines {
-            match claim(line) {
-                Claim::Least(v, value) => facts.lo[v] = value,
-                Claim::Most(v, value) => facts.hi[v] = value,
-                Claim::Stripe(stripe) => facts.push(stripe),
+        for claim in claims {
+            match *claim {
+                Claim::Least { v, value } => facts.lo[v as usize] = value,
+                Claim::Most { v, value } => facts.hi[v as usize] = value,
+                Claim::Stripe { x, a, y, z, b } => facts.push(Stripe { x, a, y, z, b }),
             }
         }
         facts

@@ -1,6 +1,7 @@
 //! When a stripe goal follows: by ranges, by a stripe that stands, or through at most three links.
 
-use crate::facts::{Facts, Stripe, BLANK};
+use crate::facts::{Facts, Stripe, VARIABLES};
+use crate::line::BLANK;
 
 const LINKS: u32 = 3;
 
@@ -12,23 +13,19 @@ struct Link {
     m: i64,
 }
 
-/// The best link for each pair of variables, gathered when the first goal needs one.
+/// The best link for each pair of variables.
 pub struct Links {
     links: [Link; 10],
     count: usize,
-    gathered: bool,
 }
 
 impl Links {
-    pub fn none() -> Links {
-        Links { links: [Link { u: 0, v: 0, m: 0 }; 10], count: 0, gathered: false }
-    }
-
-    fn gather(&mut self, stripes: &[Stripe]) {
-        self.gathered = true;
+    fn among(stripes: &[Stripe]) -> Links {
+        let mut links = Links { links: [Link { u: 0, v: 0, m: 0 }; 10], count: 0 };
         for stripe in stripes.iter().filter(|stripe| stripe.a == 1 && stripe.z == BLANK) {
-            self.keep(Link { u: stripe.x, v: stripe.y, m: stripe.b });
+            links.keep(Link { u: stripe.x, v: stripe.y, m: stripe.b });
         }
+        links
     }
 
     fn keep(&mut self, link: Link) {
@@ -43,48 +40,59 @@ impl Links {
     }
 }
 
-/// Whether the goal follows from the facts; `links` are those of the same facts.
-pub fn follows(facts: &Facts, links: &mut Links, goal: &Stripe) -> bool {
-    if at_once(facts, goal) {
+/// A goal x − a × (y + z) ≥ b under search: x and a stay the same through all links.
+struct Search<'a> {
+    hi: &'a [i64; VARIABLES + 1],
+    stripes: &'a [Stripe],
+    links: &'a [Link],
+    x: u8,
+    a: u8,
+    lo: i64,
+}
+
+/// Whether the goal follows from the facts. Their links are gathered for the first goal that needs them.
+pub fn follows(facts: &Facts, links: &mut Option<Links>, goal: &Stripe) -> bool {
+    let Stripe { x, a, y, z, b } = *goal;
+    let stripes = facts.stripes();
+    let search = Search { hi: &facts.hi, stripes, links: &[], x, a, lo: facts.lo[x as usize] };
+    if search.at_once(y, z, b) {
         return true;
     }
-    if !links.gathered {
-        links.gather(facts.stripes());
-    }
-    through(facts, &links.links[..links.count], goal, LINKS)
+    let Links { links, count } = links.get_or_insert_with(|| Links::among(stripes));
+    Search { links: &links[..*count], ..search }.through(y, z, b, LINKS)
 }
 
-#[inline]
-fn at_once(facts: &Facts, goal: &Stripe) -> bool {
-    let most = facts.hi[goal.y as usize] + facts.hi[goal.z as usize];
-    if facts.lo[goal.x as usize] - i64::from(goal.a) * most >= goal.b {
-        return true;
+impl Search<'_> {
+    #[inline]
+    fn at_once(&self, y: u8, z: u8, b: i64) -> bool {
+        let most = self.hi[y as usize] + self.hi[z as usize];
+        self.lo - i64::from(self.a) * most >= b || self.stands(y, z, b)
     }
-    facts.stripes().iter().any(|stripe| {
-        let pair = (stripe.y == goal.y && stripe.z == goal.z) || (stripe.y == goal.z && stripe.z == goal.y);
-        stripe.x == goal.x && stripe.a == goal.a && pair && stripe.b >= goal.b
-    })
-}
 
-/// One link at least, and at most `left`.
-fn through(facts: &Facts, links: &[Link], goal: &Stripe, left: u32) -> bool {
-    if left == 0 {
-        return false;
+    #[inline]
+    fn stands(&self, y: u8, z: u8, b: i64) -> bool {
+        // x is compared first, as it tells most stripes apart
+        self.stripes.iter().filter(|stripe| stripe.x == self.x).any(|stripe| {
+            let pair = (stripe.y == y && stripe.z == z) || (stripe.y == z && stripe.z == y);
+            stripe.a == self.a && pair && stripe.b >= b
+        })
     }
-    for link in links {
-        let b = goal.b - i64::from(goal.a) * link.m;
-        if link.v == goal.y && reached(facts, links, &Stripe { y: link.u, b, ..*goal }, left - 1) {
-            return true;
-        }
-        // with y = z, replacing the other one gives the same goal
-        let other = link.v == goal.z && goal.y != goal.z;
-        if other && reached(facts, links, &Stripe { z: link.u, b, ..*goal }, left - 1) {
-            return true;
-        }
-    }
-    false
-}
 
-fn reached(facts: &Facts, links: &[Link], goal: &Stripe, left: u32) -> bool {
-    at_once(facts, goal) || through(facts, links, goal, left)
+    /// By one link at least, and at most `left`.
+    fn through(&self, y: u8, z: u8, b: i64, left: u32) -> bool {
+        self.links.iter().any(|link| {
+            let b = b - i64::from(self.a) * link.m;
+            // with y = z, replacing the other one gives the same goal
+            if link.v == y {
+                self.reached(link.u, z, b, left - 1)
+            } else {
+                link.v == z && self.reached(y, link.u, b, left - 1)
+            }
+        })
+    }
+
+    #[inline]
+    fn reached(&self, y: u8, z: u8, b: i64, left: u32) -> bool {
+        self.at_once(y, z, b) || (left > 0 && self.through(y, z, b, left))
+    }
 }

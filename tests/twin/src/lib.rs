@@ -3,9 +3,14 @@
 
 mod facts;
 mod follow;
+mod line;
 mod read;
 mod run;
 mod walk;
+
+use line::{Claim, LINE};
+use read::{in_room, read, Listing, Point};
+use reference::refusals::NO_SUCH_POINT;
 
 pub use run::{run, Outcome, Report, State};
 
@@ -24,18 +29,41 @@ impl Answer {
     }
 }
 
-pub fn check(listing: &[u8]) -> Answer {
-    let mut points = read::Points::none();
-    match checked(listing, &mut points) {
+pub fn check(text: &[u8]) -> Answer {
+    in_room(text, |points, claims| match checked(text, points, claims) {
         Err(answer) => answer,
-        Ok(()) => Answer { number: 0, place: 0, second: 0, points: points.as_slice().len() as u64 },
-    }
+        Ok(listing) => Answer { number: 0, place: 0, second: 0, points: listing.points.len() as u64 },
+    })
 }
 
-/// Refusals 1 to 14; the points of a passed listing are left in `points`.
-fn checked(listing: &[u8], points: &mut read::Points) -> Result<(), Answer> {
-    points.read(listing)?;
-    walk::walk(listing, points.as_slice())
+/// Refusals 1 to 14.
+fn checked<'a>(text: &[u8], points: &'a mut [Point], claims: &'a mut [Claim]) -> Result<Listing<'a>, Answer> {
+    let listing = read(text, points, claims)?;
+    walk::walk(&listing)?;
+    Ok(listing)
+}
+
+/// Number 0 and where the claim lines of a point stand in the listing, in bytes, else the refusal, 1 to 11 or 16.
+#[derive(Clone, Copy, Debug, PartialEq, Eq)]
+pub struct Part {
+    pub number: u64,
+    pub place: u64,
+    pub offset: u64,
+    pub length: u64,
+}
+
+pub fn claim_part(text: &[u8], point: usize) -> Part {
+    let found = in_room(text, |points, claims| {
+        let listing = read(text, points, claims)?;
+        listing.points.get(point).copied().ok_or(Answer::refused(NO_SUCH_POINT, 0))
+    });
+    match found {
+        Err(Answer { number, place, .. }) => Part { number, place, offset: 0, length: 0 },
+        Ok(point) => {
+            let (first, claims) = (point.line - point.claims, u64::from(point.claims));
+            Part { number: 0, place: 0, offset: u64::from(first) * LINE as u64, length: claims * LINE as u64 }
+        }
+    }
 }
 
 /// The line that the program prints for a listing.

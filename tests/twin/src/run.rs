@@ -2,13 +2,12 @@
 //! not tested, beyond what safe Rust does at every index and division.
 
 use crate::facts::{Facts, Stripe, VARIABLES};
-use crate::read::{claim_lines, Instruction, Operand, Point, Points, SIZE_LIMIT};
+use crate::line::{Instruction, Operand, RESULTS_SIZE, SIZE_LIMIT, TRAYS_SIZE};
+use crate::read::{in_room, Listing, Point};
 use crate::{checked, Answer};
 use reference::refusals::{CLAIMS_NOT_MET, NO_SUCH_POINT, TABLE_TOO_LONG};
 
 const REGISTERS: usize = 16;
-const TRAYS_SIZE: usize = 16;
-const RESULTS_SIZE: usize = 17;
 
 #[derive(Clone, Copy, Debug, PartialEq, Eq)]
 pub struct State {
@@ -34,33 +33,26 @@ pub struct Outcome {
 type Values = [u32; VARIABLES];
 
 /// Runs at most `budget` steps. A refusal gives back the state with 0 steps and leaves the results untouched.
-pub fn run(listing: &[u8], state: State, trays: &[u8], results: &mut [u8], budget: u32) -> Outcome {
-    let mut points = Points::none();
-    let values = match admitted(listing, &mut points, &state, trays, results) {
-        Ok(values) => values,
-        Err(answer) => return Outcome { report: Report::Refused(answer), state, steps: 0 },
-    };
-    steps(points.as_slice(), state.point, values, trays, results, budget)
+pub fn run(text: &[u8], state: State, trays: &[u8], results: &mut [u8], budget: u32) -> Outcome {
+    let run = in_room(text, |points, claims| {
+        let listing = checked(text, points, claims)?;
+        let values = admitted(&listing, &state, trays, results)?;
+        Ok(steps(listing.points, state.point, values, trays, results, budget))
+    });
+    run.unwrap_or_else(|answer| Outcome { report: Report::Refused(answer), state, steps: 0 })
 }
 
-/// Refusals 1 to 17; the values of all variables where there is none.
-fn admitted(
-    listing: &[u8],
-    points: &mut Points,
-    state: &State,
-    trays: &[u8],
-    results: &[u8],
-) -> Result<Values, Answer> {
-    checked(listing, points)?;
+/// Refusals 15 to 17; the values of all variables where there is none.
+fn admitted(listing: &Listing, state: &State, trays: &[u8], results: &[u8]) -> Result<Values, Answer> {
     if trays.len() as u64 > SIZE_LIMIT || results.len() as u64 > SIZE_LIMIT {
         return Err(Answer::refused(TABLE_TOO_LONG, 0));
     }
-    let point = points.as_slice().get(state.point).ok_or(Answer::refused(NO_SUCH_POINT, 0))?;
+    let point = listing.points.get(state.point).ok_or(Answer::refused(NO_SUCH_POINT, 0))?;
     let mut values = [0; VARIABLES];
     values[..REGISTERS].copy_from_slice(&state.registers);
-    values[TRAYS_SIZE] = trays.len() as u32;
-    values[RESULTS_SIZE] = results.len() as u32;
-    if meets(&Facts::at(claim_lines(listing, point)), &values) {
+    values[TRAYS_SIZE as usize] = trays.len() as u32;
+    values[RESULTS_SIZE as usize] = results.len() as u32;
+    if meets(&Facts::at(listing.claims(point)), &values) {
         Ok(values)
     } else {
         Err(Answer::refused(CLAIMS_NOT_MET, 0))
@@ -87,14 +79,14 @@ fn steps(
 ) -> Outcome {
     let mut made = 0;
     let report = loop {
-        let instruction = points[at].instruction;
-        if matches!(instruction, Instruction::Stop) {
-            break Report::Stopped;
-        }
-        if made == budget {
+        let instruction = &points[at].instruction;
+        if made == budget && !matches!(instruction, Instruction::Stop) {
             break Report::Paused;
         }
-        at = step(instruction, at, &mut values, trays, results);
+        match step(instruction, at, &mut values, trays, results) {
+            Some(next) => at = next,
+            None => break Report::Stopped,
+        }
         made += 1;
     };
     let mut registers = [0; REGISTERS];
@@ -102,16 +94,16 @@ fn steps(
     Outcome { report, state: State { point: at, registers }, steps: made }
 }
 
-/// One step from the point `at`; answers the point it comes to.
+/// One step from the point `at`: the point it comes to, or none where it is stopped.
 #[inline]
-fn step(instruction: Instruction, at: usize, values: &mut Values, trays: &[u8], results: &mut [u8]) -> usize {
+fn step(instruction: &Instruction, at: usize, values: &mut Values, trays: &[u8], results: &mut [u8]) -> Option<usize> {
     let value = |v: u8| values[v as usize];
     let operand = |o: Operand| match o {
         Operand::Variable(v) => value(v),
         Operand::Number(number) => number,
     };
-    let (d, written) = match instruction {
-        Instruction::Stop => return at,
+    let (d, written) = match *instruction {
+        Instruction::Stop => return None,
         Instruction::Set { d, number } => (d, number),
         Instruction::Copy { d, i } => (d, value(i)),
         Instruction::Add { d, i, o } => (d, value(i).wrapping_add(operand(o))),
@@ -120,33 +112,39 @@ fn step(instruction: Instruction, at: usize, values: &mut Values, trays: &[u8], 
         Instruction::Divide { d, i, o } => (d, value(i) / operand(o)),
         Instruction::Load { d, width, size, scale, i, offset } => {
             let address = scale as usize * value(i) as usize + offset as usize;
-            let table = if size as usize == TRAYS_SIZE { trays } else { &*results };
+            let table = if size == TRAYS_SIZE { trays } else { &*results };
             (d, load(table, address, width))
         }
         Instruction::Store { stored, width, scale, i, offset } => {
             let address = scale as usize * value(i) as usize + offset as usize;
             store(results, address, width, value(stored));
-            return at + 1;
+            return Some(at + 1);
         }
-        Instruction::Jump { target } => return target as usize,
+        Instruction::Jump { target } => return Some(target as usize),
         Instruction::Less { i, target, o } => {
-            return if value(i) < operand(o) { target as usize } else { at + 1 };
+            return Some(if value(i) < operand(o) { target as usize } else { at + 1 });
         }
         Instruction::Equal { i, target, o } => {
-            return if value(i) == operand(o) { target as usize } else { at + 1 };
+            return Some(if value(i) == operand(o) { target as usize } else { at + 1 });
         }
     };
     values[d as usize] = written;
-    at + 1
+    Some(at + 1)
 }
 
 #[inline]
 fn load(table: &[u8], at: usize, width: u8) -> u32 {
     match width {
         1 => u32::from(table[at]),
-        2 => u32::from(u16::from_le_bytes([table[at], table[at + 1]])),
-        _ => u32::from_le_bytes([table[at], table[at + 1], table[at + 2], table[at + 3]]),
+        2 => u32::from(u16::from_le_bytes(bytes(table, at))),
+        _ => u32::from_le_bytes(bytes(table, at)),
     }
+}
+
+/// The N bytes from a place on, with one test of the table's end.
+#[inline]
+fn bytes<const N: usize>(table: &[u8], at: usize) -> [u8; N] {
+    table[at..at + N].try_into().expect("N bytes")
 }
 
 #[inline]
