@@ -15,7 +15,7 @@ use Rattle.model.specs.Facts.{exactly, registerRange, sizeRange, unclaim
 use Rattle.model.specs.Lists.{everyBelow}
 use Rattle.model.proofs.Tests.{and-left, and-right, every-below}
 use Rattle.model.proofs.Lists.{All}
-use Rattle.model.proofs.Limits.{ClaimLimited}
+use Rattle.model.specs.Limited.{ClaimLimited}
 use Rattle.model.proofs.Meaning.{Holds, AllHold, Met}
 use Rattle.model.proofs.Follows.{ClaimHolds, ClaimsHold}
 use Rattle.model.proofs.Ranges.{in-reset}

@@ -6,7 +6,7 @@ pub mod Stripes
 pub mod Values
 pub mod Transfer
 pub mod Lists
-pub mod Limits
+pub mod Limited
 pub mod Reading
 pub mod Parts
 pub mod Facts
@@ -14,3 +14,4 @@ pub mod Stepping
 pub mod Steps
 pub mod Runs
 pub mod Safety
+pub mod Queries

@@ -9,10 +9,12 @@ use Rattle.model.specs.Types.{Claim, Line, refusedLine, claimLine, instr
 use Rattle.model.specs.Limits.{lineBytes}
 use Rattle.model.specs.Answers.{_andThen_}
 use Rattle.model.specs.Lines.{readLine}
-use Rattle.model.specs.Listing.{Point, lineAt, inOrder, Reading, going, turned, afterLine, readTo, targets, goesOn, pointAt, endsWithInstruction, fewPoints, allTargetsExist, endsInPlace, startsNonEmpty, wholeJudged, Listing, readAs, unreadable, listingOr, listingFrom, goodLength, listingOf}
+use Rattle.model.specs.Instructions.{targets, goesOn}
+use Rattle.model.specs.Listing.{Point, lineAt, inOrder, Reading, going, refusedReading, afterLine, readTo, pointAt, endsWithInstruction, fewPoints, allTargetsExist, endsInPlace, startsNonEmpty, wholeJudged, Listing, readAs, refusedListing, listingOr, listingFrom, goodLength, listingOf}
 use Rattle.model.proofs.Tests.{cond-cases}
 use Rattle.model.proofs.Lists.{All, all-snoc}
-use Rattle.model.proofs.Limits.{Limited, ClaimLimited, LineLimited, read-limited}
+use Rattle.model.specs.Limited.{Limited, ClaimLimited, LineLimited}
+use Rattle.model.proofs.Limited.{read-limited}
 
 -- two tests made in order are both passed
 pub both-accepted : (j k : Judgement) → (j andThen k) ≡ Accepted → (j ≡ Accepted) × (k ≡ Accepted)
@@ -43,13 +45,13 @@ pub record PointLimited (q : Point) : Type 0 where
 
 abbrev ReadWell : ℕ → Reading → Type 0
 ReadWell n (going ps cs) = All PointLimited ps × All ClaimLimited cs × (length cs ≤ n)
-ReadWell n (turned r) = Unit {0}
+ReadWell n (refusedReading r) = Unit {0}
 
 read-more : (n : ℕ) (q : Reading) (l : Line) → ReadWell n q → LineLimited l → ReadWell (suc n) (afterLine q n l)
-read-more n (turned r) l h t = tt
+read-more n (refusedReading r) l h t = tt
 read-more n (going ps cs) (refusedLine r) h t = tt
 read-more n (going ps cs) (claimLine c) h t =
-    cond-cases (ReadWell (suc n)) (inOrder cs c) (going ps (cs ++ (c ∷ []))) (turned (ClaimOrder (n + 1)))
+    cond-cases (ReadWell (suc n)) (inOrder cs c) (going ps (cs ++ (c ∷ []))) (refusedReading (ClaimOrder (n + 1)))
     (λ e. (h .0, all-snoc ClaimLimited cs c (h .1) t, rw (length-append cs (c ∷ [])) (omega arith))) (λ e. tt)
 read-more n (going ps cs) (instructionLine i) h t =
     (all-snoc PointLimited ps _ (h .0) (record { instruction = t; claims = h .1; before = omega arith }), tt, omega arith)
@@ -67,7 +69,7 @@ pub record WellFormed (ps : List Point) : Type 0 where
 
 abbrev ListingWell : Listing → Type 0
 ListingWell (readAs ps) = WellFormed ps
-ListingWell (unreadable r) = Unit {0}
+ListingWell (refusedListing r) = Unit {0}
 
 ends-passed : (b : Bool) (r : Refusal) → cond b (refused r) Accepted ≡ Accepted → b ≡ false
 ends-passed false r e = refl
@@ -83,13 +85,13 @@ whole-well lines ps cs h Accepted e =
     record { limited = h; targets = target; ends = ends-passed (goesOn (pointAt ps (length ps - 1) .instruction)) (NoEnd lines) end }
 
 from-well : (n : ℕ) (q : Reading) → ReadWell n q → ListingWell (listingFrom n q)
-from-well n (turned r) h = tt
+from-well n (refusedReading r) h = tt
 from-well n (going ps cs) h = whole-well n ps cs (h .0) (wholeJudged n ps cs) refl
 
 listing-well : (s : List ℕ) → ListingWell (listingOf s)
 unfolding listingOf
 listing-well s =
-    cond-cases ListingWell (goodLength (length s)) (listingFrom (length s / lineBytes) (readTo s (length s / lineBytes))) (unreadable ListingLength)
+    cond-cases ListingWell (goodLength (length s)) (listingFrom (length s / lineBytes) (readTo s (length s / lineBytes))) (refusedListing ListingLength)
     (λ e. from-well (length s / lineBytes) (readTo s (length s / lineBytes)) (read-well s (length s / lineBytes))) (λ e. tt)
 
 -- a listing that is read is well-formed

@@ -8,7 +8,8 @@ use native.Mathlib.Omega.{arith}
 use native.Mathlib.Decide.{ℕ-discrete, decLt}
 use lib.ListN.{length, getD}
 use Rattle.model.specs.Types.{Accepted}
-use Rattle.model.specs.Listing.{Point, pointAt, targets, goesOn, targetsExist, allTargetsExist}
+use Rattle.model.specs.Instructions.{targets, goesOn}
+use Rattle.model.specs.Listing.{Point, pointAt, targetsExist, allTargetsExist}
 use Rattle.model.specs.Machine.{Config, Step, next, stopped, errorState, stepAt, Machine, at, settled, onward, steps}
 use Rattle.model.specs.Check.{pointJudged, pointsJudged}
 use Rattle.model.proofs.Lists.{all-at}
@@ -40,7 +41,7 @@ targets-at n [] d p h e = absurd (not-suc-le-zero h)
 targets-at n (q ∷ qs) d zero h e = both-accepted (targetsExist n (q .line) (targets (q .instruction))) _ e .0
 targets-at n (q ∷ qs) d (suc p) h e = targets-at n qs d p (le-of-suc-le-suc h) (both-accepted (targetsExist n (q .line) (targets (q .instruction))) _ e .1)
 
-module _ (ps : List Point) (passes : Passes ps) (n m : ℕ) where
+module _ (ps : List Point) (passes : Passes ps) (sizes : List ℕ) where
   -- an instruction that goes on is not the last
   not-last : (p : ℕ) → p < length ps → goesOn (pointAt ps p .instruction) ≡ true → p + 1 < length ps
   not-last p h e = go (decLt (p + 1) (length ps))
@@ -52,21 +53,21 @@ module _ (ps : List Point) (passes : Passes ps) (n m : ℕ) where
           let end : goesOn (pointAt ps p .instruction) ≡ false = rw last at (passes .formed .ends) in
           absurd (false≢true (sym end ∙ e))
 
-  pub step-kept : (c : Config) → Good ps n m c → StepGood ps n m (c .trays) (stepAt ps c)
+  pub step-kept : (c : Config) → Good ps sizes c → StepGood ps sizes (c .tables .trays) (stepAt ps c)
   step-kept c g =
       let q = pointAt ps (c .point) in
       let lim : PointLimited q = all-at PointLimited ps _ (c .point) (g .exists) (passes .formed .limited) in
-      step-good ps (passes .formed .limited) n m c (g .typed) (q .line) (q .claims) (g .met) (q .instruction) (lim .instruction)
+      step-good ps (passes .formed .limited) sizes c (g .typed) (q .line) (q .claims) (g .met) (q .instruction) (lim .instruction)
       (not-last (c .point) (g .exists)) (targets-at (length ps) ps _ (c .point) (g .exists) (passes .formed .targets)) (passes .owed (c .point) (g .exists))
 
   -- where k steps lead
   pub record Reached (c₀ : Config) (k : ℕ) : Type 0 where
     pub config : Config
     pub reached : steps ps k (at c₀) ≡ at config
-    pub good : Good ps n m config
-    pub trays : config .trays ≡ c₀ .trays
+    pub good : Good ps sizes config
+    pub trays : config .tables .trays ≡ c₀ .tables .trays
 
-  pub reached-all : (c₀ : Config) → Good ps n m c₀ → (k : ℕ) → Reached c₀ k
+  pub reached-all : (c₀ : Config) → Good ps sizes c₀ → (k : ℕ) → Reached c₀ k
   unfolding steps
   reached-all c₀ g zero = record { config = c₀; reached = refl; good = g; trays = refl }
   reached-all c₀ g (suc k) = one (reached-all c₀ g k)
@@ -74,7 +75,7 @@ module _ (ps : List Point) (passes : Passes ps) (n m : ℕ) where
       one : Reached c₀ k → Reached c₀ (suc k)
       one r = go (stepAt ps (r .config)) refl (step-kept (r .config) (r .good))
         where
-          go : (s : Step) → stepAt ps (r .config) ≡ s → StepGood ps n m (r .config .trays) s → Reached c₀ (suc k)
+          go : (s : Step) → stepAt ps (r .config) ≡ s → StepGood ps sizes (r .config .tables .trays) s → Reached c₀ (suc k)
           go (next c) e h = record { config = c; reached = ap (onward ps) (r .reached) ∙ ap (settled (r .config)) e; good = h .0; trays = h .1 ∙ r .trays }
           go stopped e h = record { config = r .config; reached = ap (onward ps) (r .reached) ∙ ap (settled (r .config)) e; good = r .good; trays = r .trays }
           go errorState e h = absurd h

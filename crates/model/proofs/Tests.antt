@@ -23,6 +23,18 @@ pub and-both : (a b : Bool) → a ≡ true → b ≡ true → (a && b) ≡ true
 and-both true b e f = f
 and-both false b e f = absurd (false≢true e)
 
+pub and-true : (b : Bool) → b ≡ (b && true)
+and-true true = refl
+and-true false = refl
+
+pub and-assoc : (a b c : Bool) → (a && (b && c)) ≡ ((a && b) && c)
+and-assoc true b c = refl
+and-assoc false b c = refl
+
+pub or-true : (a : Bool) {b : Bool} → b ≡ true → (a || b) ≡ true
+or-true true e = refl
+or-true false e = e
+
 pub or-false : (a b : Bool) → (a || b) ≡ false → (a ≡ false) × (b ≡ false)
 or-false true b e = absurd (false≢true (sym e))
 or-false false b e = (refl, e)

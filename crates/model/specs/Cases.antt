@@ -10,11 +10,12 @@ use Prim.Native.String.{String}
 use mathlib.Core.Path.{_≡_, refl}
 use mathlib.Core.List.{List, [], _∷_, _++_, map}
 use lib.ListN.{length, replicate}
-use Rattle.model.specs.Types.{Copy, State, Refusal, Judgement, Accepted, refused, Verdict, Passed, turnedBack, Report, Stopped, Paused, notRun}
+use Rattle.model.specs.Types.{Copy, State, Refusal, Judgement, Accepted, refused, Verdict, Passed, refusedVerdict, Report, Stopped, Paused, refusedRun}
 use Rattle.model.specs.Text.{space}
 use Rattle.model.specs.Words.{bytes}
 use Rattle.model.specs.Answers.{numberOf, placeOf, secondPlaceOf}
 use Rattle.model.specs.Listing.{Point, wholeJudged, listingOf, claimLinesJudged, claimLines}
+use Rattle.model.specs.Machine.{lent}
 use Rattle.model.specs.Check.{check}
 use Rattle.model.specs.Run.{Ran, run}
 use Rattle.model.specs.Output.{printed}
@@ -296,22 +297,22 @@ data Answer : Type 0 where
   stops : Answer
   pauses : Answer
   accepts : Answer
-  turnedBackBy : ℕ → ℕ → ℕ → Answer
+  refusedBy : ℕ → ℕ → ℕ → Answer
 
 -- a refusal in numbers
 abbrev ofRefusal : Refusal → Answer
-ofRefusal r = turnedBackBy (numberOf r) (placeOf r) (secondPlaceOf r)
+ofRefusal r = refusedBy (numberOf r) (placeOf r) (secondPlaceOf r)
 
 -- the checker's answer in numbers
 abbrev ofVerdict : Verdict → Answer
 ofVerdict (Passed n) = passes n
-ofVerdict (turnedBack r) = ofRefusal r
+ofVerdict (refusedVerdict r) = ofRefusal r
 
 -- a run's report in numbers
 abbrev ofReport : Report → Answer
 ofReport Stopped = stops
 ofReport Paused = pauses
-ofReport (notRun r) = ofRefusal r
+ofReport (refusedRun r) = ofRefusal r
 
 -- the outcome of some tests in numbers
 abbrev ofJudgement : Judgement → Answer
@@ -327,7 +328,7 @@ data HandedBack : Type 0 where
 
 -- what a run hands back, in numbers
 abbrev ofRun : Ran → HandedBack
-ofRun r = afterRun (ofReport (r .outcome .report)) (r .outcome .steps) (r .outcome .state) (r .trays) (r .results)
+ofRun r = afterRun (ofReport (r .outcome .report)) (r .outcome .steps) (r .outcome .state) (r .tables .trays) (r .tables .results)
 
 -- a worked case: what the definitions give, and what is stated
 record Case : Type 0 where
@@ -348,7 +349,7 @@ prints l t = record { given = line (printed (check l)); stated = line (bytes t) 
 
 -- a run from a state over trays and results with a budget
 abbrev runs : List ℕ → State → List ℕ → List ℕ → ℕ → HandedBack → Case
-runs l s ts rs n h = record { given = ofRun (run l s ts rs n); stated = h }
+runs l s ts rs n h = record { given = ofRun (run l s (lent ts rs) n); stated = h }
 
 -- the claim lines of a point
 abbrev claimsAt : List ℕ → ℕ → Answer → List ℕ → Case
@@ -357,64 +358,64 @@ claimsAt l p a ls = record { given = part (ofJudgement (claimLinesJudged (listin
 -- all cases
 abbrev table : List Case
 table =
-    checked c1 (turnedBackBy 1 0 0)
+    checked c1 (refusedBy 1 0 0)
     ∷ checked c2 (passes 1)
     ∷ checked c3 (passes 1)
     ∷ runs c3 (standing 0 0 0 0) [] [] 5 (afterRun pauses 5 (standing 0 0 0 0) [] [])
-    ∷ checked c4 (turnedBackBy 12 4 0)
+    ∷ checked c4 (refusedBy 12 4 0)
     ∷ prints c4 "FAIL  12                              4\n"
     ∷ checked c5 (passes 4)
     ∷ prints c5 "PASS                                  4\n"
     ∷ checked (c6 "4") (passes 6)
-    ∷ checked (c6 "5") (turnedBackBy 14 4 7)
-    ∷ checked (c6 "3") (turnedBackBy 13 8 0)
+    ∷ checked (c6 "5") (refusedBy 14 4 7)
+    ∷ checked (c6 "3") (refusedBy 13 8 0)
     ∷ runs (c6 "4") (standing 0 0 2 7) [] (replicate 8 255) 10 (afterRun stops 10 (standing 2 2 2 7) [] (7 ∷ 0 ∷ 0 ∷ 0 ∷ 7 ∷ 0 ∷ 0 ∷ 0 ∷ []))
-    ∷ runs (c6 "4") (standing 0 0 3 7) [] (replicate 8 255) 10 (afterRun (turnedBackBy 17 0 0) 0 (standing 0 0 3 7) [] (replicate 8 255))
-    ∷ checked (c8 "1") (turnedBackBy 14 3 4)
+    ∷ runs (c6 "4") (standing 0 0 3 7) [] (replicate 8 255) 10 (afterRun (refusedBy 17 0 0) 0 (standing 0 0 3 7) [] (replicate 8 255))
+    ∷ checked (c8 "1") (refusedBy 14 3 4)
     ∷ checked (c8 "0") (passes 3)
-    ∷ checked c9 (turnedBackBy 13 4 0)
-    ∷ checked c10 (turnedBackBy 12 4 0)
+    ∷ checked c9 (refusedBy 13 4 0)
+    ∷ checked c10 (refusedBy 12 4 0)
     -- beyond C1 to C10: the other numbers
-    ∷ checked unprintable (turnedBackBy 2 3 0)
-    ∷ checked unknownWord (turnedBackBy 3 2 0)
-    ∷ checked misshapen (turnedBackBy 4 2 0)
-    ∷ checked outsideLimits (turnedBackBy 5 3 0)
-    ∷ checked outOfOrder (turnedBackBy 6 3 0)
-    ∷ checked claimLast (turnedBackBy 7 4 0)
-    ∷ wholeTested 514 (copies 2 513) (turnedBackBy 8 514 0)
-    ∷ wholeTested 513 (copies 2 512) (turnedBackBy 10 513 0)
-    ∷ checked noSuchTarget (turnedBackBy 9 4 0)
-    ∷ checked noEnd (turnedBackBy 10 4 0)
-    ∷ checked emptyStart (turnedBackBy 11 3 0)
-    ∷ checked twoFaults (turnedBackBy 12 4 0)
-    ∷ runs c2 (standing 1 0 0 0) longTable [] 5 (afterRun (turnedBackBy 15 0 0) 0 (standing 1 0 0 0) longTable [])
-    ∷ runs c2 (standing 1 0 0 0) [] longTable 5 (afterRun (turnedBackBy 15 0 0) 0 (standing 1 0 0 0) [] longTable)
-    ∷ runs c2 (standing 1 0 0 0) [] [] 5 (afterRun (turnedBackBy 16 0 0) 0 (standing 1 0 0 0) [] [])
+    ∷ checked unprintable (refusedBy 2 3 0)
+    ∷ checked unknownWord (refusedBy 3 2 0)
+    ∷ checked misshapen (refusedBy 4 2 0)
+    ∷ checked outsideLimits (refusedBy 5 3 0)
+    ∷ checked outOfOrder (refusedBy 6 3 0)
+    ∷ checked claimLast (refusedBy 7 4 0)
+    ∷ wholeTested 514 (copies 2 513) (refusedBy 8 514 0)
+    ∷ wholeTested 513 (copies 2 512) (refusedBy 10 513 0)
+    ∷ checked noSuchTarget (refusedBy 9 4 0)
+    ∷ checked noEnd (refusedBy 10 4 0)
+    ∷ checked emptyStart (refusedBy 11 3 0)
+    ∷ checked twoFaults (refusedBy 12 4 0)
+    ∷ runs c2 (standing 1 0 0 0) longTable [] 5 (afterRun (refusedBy 15 0 0) 0 (standing 1 0 0 0) longTable [])
+    ∷ runs c2 (standing 1 0 0 0) [] longTable 5 (afterRun (refusedBy 15 0 0) 0 (standing 1 0 0 0) [] longTable)
+    ∷ runs c2 (standing 1 0 0 0) [] [] 5 (afterRun (refusedBy 16 0 0) 0 (standing 1 0 0 0) [] [])
     -- a printed second place, a run of a listing that is turned back, and a run without budget
     ∷ prints (c6 "5") "FAIL  14               7              4\n"
-    ∷ runs c4 (standing 4 1 2 3) (9 ∷ []) (8 ∷ []) 5 (afterRun (turnedBackBy 12 4 0) 0 (standing 4 1 2 3) (9 ∷ []) (8 ∷ []))
+    ∷ runs c4 (standing 4 1 2 3) (9 ∷ []) (8 ∷ []) 5 (afterRun (refusedBy 12 4 0) 0 (standing 4 1 2 3) (9 ∷ []) (8 ∷ []))
     ∷ runs c2 (standing 0 1 2 3) [] [] 0 (afterRun stops 0 (standing 0 1 2 3) [] [])
     -- claim lines: given, also where 12 is due, none, and turned back
     ∷ claimsAt c4 0 accepts (row "LEAS" "16" "" "" "" "" "4" ++ row "MOST" "1" "" "" "" "" "0")
     ∷ claimsAt c5 2 accepts (row "LEAS" "2" "" "" "" "" "1")
     ∷ claimsAt c5 3 accepts []
-    ∷ claimsAt c5 4 (turnedBackBy 16 0 0) []
-    ∷ claimsAt c1 0 (turnedBackBy 1 0 0) []
+    ∷ claimsAt c5 4 (refusedBy 16 0 0) []
+    ∷ claimsAt c1 0 (refusedBy 1 0 0) []
     -- the slips: stripes of a written register, an increment that may wrap, links, and the way back of a loop
     ∷ checked (written "16" "1" "2") (passes 2)
-    ∷ checked (written "0" "1" "") (turnedBackBy 14 2 3)
-    ∷ checked (written "16" "0" "") (turnedBackBy 14 2 3)
-    ∷ checked (written "16" "1" "0") (turnedBackBy 14 2 3)
+    ∷ checked (written "0" "1" "") (refusedBy 14 2 3)
+    ∷ checked (written "16" "0" "") (refusedBy 14 2 3)
+    ∷ checked (written "16" "1" "0") (refusedBy 14 2 3)
     ∷ checked (incremented "4294967294" "1") (passes 2)
-    ∷ checked (incremented "4294967294" "2") (turnedBackBy 14 3 4)
-    ∷ checked (incremented "4294967295" "1") (turnedBackBy 14 3 4)
+    ∷ checked (incremented "4294967294" "2") (refusedBy 14 3 4)
+    ∷ checked (incremented "4294967295" "1") (refusedBy 14 3 4)
     ∷ checked (linked "1" "") (passes 2)
-    ∷ checked (linked "2" "") (turnedBackBy 13 3 0)
-    ∷ checked (linked "1" "3") (turnedBackBy 13 3 0)
+    ∷ checked (linked "2" "") (refusedBy 13 3 0)
+    ∷ checked (linked "1" "3") (refusedBy 13 3 0)
     ∷ checked (chained "3") (passes 2)
-    ∷ checked (chained "4") (turnedBackBy 13 6 0)
+    ∷ checked (chained "4") (refusedBy 13 6 0)
     ∷ checked (looping "4") (passes 4)
-    ∷ checked (looping "5") (turnedBackBy 14 5 2)
+    ∷ checked (looping "5") (refusedBy 14 5 2)
     ∷ []
 
 -- what the definitions give in a case

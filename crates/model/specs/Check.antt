@@ -6,11 +6,11 @@ use mathlib.Core.Bool.{Bool, _||_, cond}
 use mathlib.Core.List.{List, [], _∷_}
 use lib.ListN.{length}
 use lib.Dec.{leb, eqb}
-use Rattle.model.specs.Types.{Width, Table, Results, Operand, Instruction, Stop, Setc, Copy, Addw, Subw, Mulw, Divf, Load, Stor, Jump, Bltu, Bequ, Edge, DivisorMayBeZero, AccessMayLeave, ClaimMayFail, Judgement, Accepted, refused, Verdict, Passed, turnedBack}
+use Rattle.model.specs.Types.{Width, Table, Results, Operand, Instruction, Stop, Setc, Copy, Addw, Subw, Mulw, Divf, Load, Stor, Jump, Bltu, Bequ, Edge, DivisorMayBeZero, AccessMayLeave, ClaimMayFail, Judgement, Accepted, refused, Verdict, Passed, refusedVerdict}
 use Rattle.model.specs.Limits.{blankVariable, greatestLinks}
 use Rattle.model.specs.Answers.{_andThen_}
 use Rattle.model.specs.Facts.{Facts, factsOf, lo, hi}
-use Rattle.model.specs.Listing.{Point, pointAt, firstLine, Listing, readAs, unreadable, listingOf}
+use Rattle.model.specs.Listing.{Point, pointAt, firstLine, Listing, readAs, refusedListing, listingOf}
 use Rattle.model.specs.Machine.{bytesOf, sizeVariable}
 use Rattle.model.specs.Transfer.{edges, leadsTo, operandRange, stripe, factsAlong}
 use Rattle.model.specs.Follows.{follows, lostAlong}
@@ -62,20 +62,20 @@ unfolding pointJudged
 pointsJudged ps zero = Accepted
 pointsJudged ps (suc n) = pointsJudged ps n andThen pointJudged ps n (pointAt ps n)
 
--- 12 to 14 over all points of a listing that is read
+-- 12 to 14 over all points of a listing that is read; one that is turned back by 1 to 11 stays so
 abbrev pub listingJudged : Listing → Judgement
 listingJudged (readAs ps) = pointsJudged ps (length ps)
-listingJudged (unreadable r) = refused r
+listingJudged (refusedListing r) = refused r
 
 -- the answer for n points and what became of their tests
 abbrev pub verdictFrom : ℕ → Judgement → Verdict
 verdictFrom n Accepted = Passed n
-verdictFrom n (refused r) = turnedBack r
+verdictFrom n (refused r) = refusedVerdict r
 
 -- the answer for a listing that is read or turned back
 abbrev pub verdictOf : Listing → Verdict
 verdictOf (readAs ps) = verdictFrom (length ps) (listingJudged (readAs ps))
-verdictOf (unreadable r) = turnedBack r
+verdictOf (refusedListing r) = refusedVerdict r
 
 -- the checker's answer; a listing is 'passed' if this turns it back by none of 1 to 14
 unfoldable pub check : List ℕ → Verdict

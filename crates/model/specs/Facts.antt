@@ -1,12 +1,12 @@
 -- Document 01, 'Claims': ranges and stripes, what is known at a point, and when values meet it.
 -- A bound b is two naturals, b = plus - minus, so that a stripe x - a * (y + z) ≥ b reads a * (y + z) + plus ≤ x + minus.
-use Prim.Native.Nat.{ℕ, _+_, _*_}
+use Prim.Native.Nat.{ℕ, zero, suc, _+_, _*_}
 use mathlib.Core.Bool.{Bool, _&&_, cond}
 use mathlib.Core.List.{List, [], _∷_, _++_}
-use lib.ListN.{getD, set, replicate}
+use lib.ListN.{getD, set}
 use lib.Dec.{leb, ltb}
 use Rattle.model.specs.Types.{Range, Stripe, Claim, Leas, Most, Strp}
-use Rattle.model.specs.Limits.{registers, tables, variables, MAX, greatestSize}
+use Rattle.model.specs.Limits.{registers, variables, MAX, greatestSize}
 use Rattle.model.specs.Lists.{everyBelow, every}
 
 -- the range from one number to another
@@ -34,9 +34,14 @@ pub record Facts : Type 0 where
   pub ranges : List Range
   pub stripes : List Stripe
 
+-- the unclaimed ranges of the first n variables
+abbrev pub unclaimedRanges : ℕ → List Range
+unclaimedRanges zero = []
+unclaimedRanges (suc n) = unclaimedRanges n ++ (unclaimedRange n ∷ [])
+
 -- nothing claimed
 abbrev pub unclaimed : Facts
-unclaimed = record { ranges = replicate registers registerRange ++ replicate tables sizeRange; stripes = [] }
+unclaimed = record { ranges = unclaimedRanges variables; stripes = [] }
 
 -- the range of a variable; the blank variable is exactly 0
 abbrev pub rangeOf : List Range → ℕ → Range

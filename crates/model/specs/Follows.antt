@@ -1,5 +1,5 @@
 -- Document 01, 'What a step does to claims': when a claim follows from what is known.
--- A link only adds: the bound b − a × m of the new goal is plus + a × m's minus, less minus + a × m's plus.
+-- A link only adds: the bound b − a × m of the new goal is plus + a × m's minus, less minus + a × m's plus. A goal's bound has no limits.
 use Prim.Native.Nat.{ℕ, zero, suc, _+_, _*_}
 use mathlib.Core.Bool.{Bool, _&&_, _||_, cond}
 use mathlib.Core.List.{List, [], _∷_}

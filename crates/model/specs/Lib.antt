@@ -1,11 +1,13 @@
 pub mod Types
 pub mod Limits
 pub mod Lists
+pub mod Instructions
 pub mod Text
 pub mod Words
 pub mod Answers
 pub mod Lines
 pub mod Facts
+pub mod Limited
 pub mod Listing
 pub mod Machine
 pub mod Transfer

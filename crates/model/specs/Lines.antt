@@ -77,7 +77,7 @@ inShape w fs = everyBelow (λ (j : ℕ). shaped (kindAt w j) (fieldAt fs j)) 6
 -- every number lies within its limits
 unfoldable pub inLimits : Word → List Field → Bool
 unfolding everyBelow allowed fieldsOf
-inLimits w fs = everyBelow (λ (j : ℕ). allowed (kindAt w j) (F1 fs) (F5 fs) (valueIn (fieldAt fs j))) 6
+inLimits w fs = everyBelow (λ (j : ℕ). allowed (kindAt w j) (F1 fs) (F5 fs) (fieldAt fs j)) 6
 
 -- 3, 4 and 5: a word and its fields, judged with a line number for place
 unfoldable pub judged : ℕ → FoundWord → List Field → Judgement

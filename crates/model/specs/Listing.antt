@@ -5,9 +5,10 @@ use mathlib.Core.Bool.{Bool, true, false, _&&_, cond}
 use mathlib.Core.List.{List, [], _∷_, _++_}
 use lib.ListN.{length, getD, take, drop}
 use lib.Dec.{leb, ltb, eqb}
-use Rattle.model.specs.Types.{Instruction, Stop, Setc, Copy, Addw, Subw, Mulw, Divf, Load, Stor, Jump, Bltu, Bequ, Claim, Leas, Most, Strp, Line, refusedLine, claimLine, instructionLine, Refusal, ListingLength, ClaimOrder, LastLineClaim, TooManyPoints, NoSuchTarget, NoEnd, EmptyStart, NoSuchPoint, Judgement, Accepted, refused, ClaimPart}
+use Rattle.model.specs.Types.{Instruction, Stop, Claim, Leas, Most, Strp, Line, refusedLine, claimLine, instructionLine, Refusal, ListingLength, ClaimOrder, LastLineClaim, TooManyPoints, NoSuchTarget, NoEnd, EmptyStart, NoSuchPoint, Judgement, Accepted, refused, ClaimPart}
 use Rattle.model.specs.Limits.{lineBytes, greatestListing, greatestPoints, greatestStripes}
 use Rattle.model.specs.Answers.{_andThen_}
+use Rattle.model.specs.Instructions.{targets, goesOn}
 use Rattle.model.specs.Lines.{readLine}
 use Rattle.model.specs.Facts.{factsOf, nonEmpty}
 
@@ -57,13 +58,13 @@ inOrder cs c = mayFollowAll cs c && leb (stripesAmong (c ∷ cs)) greatestStripe
 -- what is read so far: the points, and the claims since the last of them; or the first refusal
 pub data Reading : Type 0 where
   going : List Point → List Claim → Reading
-  turned : Refusal → Reading
+  refusedReading : Refusal → Reading
 
 -- one line more, the k-th counted from 0
 abbrev pub afterLine : Reading → ℕ → Line → Reading
-afterLine (turned r) k l = turned r
-afterLine (going ps cs) k (refusedLine r) = turned r
-afterLine (going ps cs) k (claimLine c) = cond (inOrder cs c) (going ps (cs ++ (c ∷ []))) (turned (ClaimOrder (k + 1)))
+afterLine (refusedReading r) k l = refusedReading r
+afterLine (going ps cs) k (refusedLine r) = refusedReading r
+afterLine (going ps cs) k (claimLine c) = cond (inOrder cs c) (going ps (cs ++ (c ∷ []))) (refusedReading (ClaimOrder (k + 1)))
 afterLine (going ps cs) k (instructionLine i) = going (ps ++ (record { line = k + 1; claims = cs; instruction = i } ∷ [])) []
 
 -- the first n lines
@@ -71,36 +72,6 @@ unfoldable pub readTo : List ℕ → ℕ → Reading
 unfolding readLine
 readTo s zero = going [] []
 readTo s (suc n) = afterLine (readTo s n) n (readLine (n + 1) (lineAt s n))
-
--- the points that an instruction names as targets
-abbrev pub targets : Instruction → List ℕ
-targets Stop = []
-targets (Setc d c) = []
-targets (Copy d i) = []
-targets (Addw d i o) = []
-targets (Subw d i o) = []
-targets (Mulw d i o) = []
-targets (Divf d i o) = []
-targets (Load d w b a i k) = []
-targets (Stor v w a i k) = []
-targets (Jump t) = t ∷ []
-targets (Bltu i t o) = t ∷ []
-targets (Bequ i t o) = t ∷ []
-
--- an instruction that may go on to the next point: any but STOP and JUMP
-abbrev pub goesOn : Instruction → Bool
-goesOn Stop = false
-goesOn (Setc d c) = true
-goesOn (Copy d i) = true
-goesOn (Addw d i o) = true
-goesOn (Subw d i o) = true
-goesOn (Mulw d i o) = true
-goesOn (Divf d i o) = true
-goesOn (Load d w b a i k) = true
-goesOn (Stor v w a i k) = true
-goesOn (Jump t) = false
-goesOn (Bltu i t o) = true
-goesOn (Bequ i t o) = true
 
 -- point p; past the last a STOP without claims
 abbrev pub pointAt : List Point → ℕ → Point
@@ -142,16 +113,16 @@ wholeJudged lines ps cs =
 -- a listing is read as its points, or turned back by one of 1 to 11
 pub data Listing : Type 0 where
   readAs : List Point → Listing
-  unreadable : Refusal → Listing
+  refusedListing : Refusal → Listing
 
 -- the points, where nothing turns the listing back
 abbrev pub listingOr : Judgement → List Point → Listing
 listingOr Accepted ps = readAs ps
-listingOr (refused r) ps = unreadable r
+listingOr (refused r) ps = refusedListing r
 
 -- a listing of so many lines that were read
 abbrev pub listingFrom : ℕ → Reading → Listing
-listingFrom lines (turned r) = unreadable r
+listingFrom lines (refusedReading r) = refusedListing r
 listingFrom lines (going ps cs) = listingOr (wholeJudged lines ps cs) ps
 
 -- 1: the listing has at least one line and whole lines, and is not too long
@@ -164,12 +135,12 @@ unfolding goodLength readTo wholeJudged
 listingOf s =
     let lines = length s / lineBytes in
     let read = listingFrom lines (readTo s lines) in
-    cond (goodLength (length s)) read (unreadable ListingLength)
+    cond (goodLength (length s)) read (refusedListing ListingLength)
 
 -- the points of a listing; none where it is turned back
 abbrev pub pointsOf : Listing → List Point
 pointsOf (readAs ps) = ps
-pointsOf (unreadable r) = []
+pointsOf (refusedListing r) = []
 
 -- 16: the point exists
 abbrev pub pointExists : List Point → ℕ → Judgement
@@ -178,7 +149,7 @@ pointExists ps p = cond (ltb p (length ps)) Accepted (refused NoSuchPoint)
 -- the call for claim lines tests 1 to 11, then 16
 abbrev pub claimLinesJudged : Listing → ℕ → Judgement
 claimLinesJudged (readAs ps) p = pointExists ps p
-claimLinesJudged (unreadable r) p = refused r
+claimLinesJudged (refusedListing r) p = refused r
 
 -- where the claim lines of a point begin in the listing
 abbrev pub claimOffset : Point → ℕ

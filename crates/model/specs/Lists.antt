@@ -23,3 +23,8 @@ module _ {A : Type 0} where
   unfoldable pub kept : (A → Bool) → List A → List A
   kept p [] = []
   kept p (x ∷ xs) = cond (p x) (x ∷ kept p xs) (kept p xs)
+
+  -- there is no element
+  abbrev pub isEmpty : List A → Bool
+  isEmpty [] = true
+  isEmpty (x ∷ xs) = false

@@ -1,5 +1,6 @@
 -- Document 01, 'The machine': what a step makes of a state and the tables.
--- A configuration is a state with the bytes of both tables, so that it is a fact about the step, and no matter of notation, that the trays stay as they are.
+-- A configuration is a state with the bytes of the tables, so that it is a fact about the step, and no matter of notation, that the trays stay as they are.
+-- The tables are one thing and their sizes one list, which follows the registers among the values of all variables.
 -- The error state is a case of its own, and so is standing at STOP, which makes no step.
 use Prim.Native.Nat.{ℕ, zero, suc, _+_, _*_, _-_, _/_, _%_}
 use mathlib.Core.Bool.{cond}
@@ -11,28 +12,54 @@ use Rattle.model.specs.Limits.{registers, modulus}
 use Rattle.model.specs.Facts.{valueAt}
 use Rattle.model.specs.Listing.{Point, pointAt}
 
+-- the bytes of the tables, by the tables' names
+pub record Tables : Type 0 where
+  pub trays : List ℕ
+  pub results : List ℕ
+
+-- the tables that are lent as these bytes
+abbrev pub lent : List ℕ → List ℕ → Tables
+lent ts rs = record { trays = ts; results = rs }
+
+-- the bytes of a table
+abbrev pub tableOf : Table → Tables → List ℕ
+tableOf Trays t = t .trays
+tableOf Results t = t .results
+
+-- the number of a table, as LOAD names it
+abbrev pub tableNumber : Table → ℕ
+tableNumber Trays = 0
+tableNumber Results = 1
+
+-- the sizes of the tables in bytes, by the tables' numbers
+abbrev pub sizesOf : Tables → List ℕ
+sizesOf t = length (t .trays) ∷ length (t .results) ∷ []
+
+-- the variable that is the size of a table
+abbrev pub sizeVariable : Table → ℕ
+sizeVariable b = registers + tableNumber b
+
 -- a configuration: a point, the registers, and the bytes of the tables
 pub record Config : Type 0 where
   pub point : ℕ
   pub registers : List ℕ
-  pub trays : List ℕ
-  pub results : List ℕ
+  pub tables : Tables
 
 -- a state with the tables lent to a run
-abbrev pub configOf : State → List ℕ → List ℕ → Config
-configOf s ts rs = record { point = s .point; registers = s .registers; trays = ts; results = rs }
+abbrev pub configOf : State → Tables → Config
+configOf s t = record { point = s .point; registers = s .registers; tables = t }
 
 -- the state of a configuration
 abbrev pub stateOf : Config → State
 stateOf c = record { point = c .point; registers = c .registers }
 
 -- the values of all variables, from the registers and the sizes of the tables
-abbrev pub valuesFrom : List ℕ → ℕ → ℕ → List ℕ
-valuesFrom rs n m = rs ++ (n ∷ m ∷ [])
+abbrev pub valuesFrom : List ℕ → List ℕ → List ℕ
+valuesFrom rs sizes = rs ++ sizes
 
 -- the values of all variables in a configuration
 abbrev pub values : Config → List ℕ
-values c = valuesFrom (c .registers) (length (c .trays)) (length (c .results))
+values c = valuesFrom (c .registers) (sizesOf (c .tables))
 
 -- the value of an operand among the values of all variables
 abbrev pub operandAt : List ℕ → Operand → ℕ
@@ -52,16 +79,6 @@ abbrev pub bytesOf : Width → ℕ
 bytesOf One = 1
 bytesOf Two = 2
 bytesOf Four = 4
-
--- the bytes of a table
-abbrev pub tableOf : Table → Config → List ℕ
-tableOf Trays c = c .trays
-tableOf Results c = c .results
-
--- the variable that is the size of a table
-abbrev pub sizeVariable : Table → ℕ
-sizeVariable Trays = registers
-sizeVariable Results = registers + 1
 
 -- w bytes from an address on as a number, least significant first
 unfoldable pub readBytes : ℕ → List ℕ → ℕ → ℕ
@@ -95,15 +112,15 @@ address a x k = a * x + k
 
 -- on to the next point, with one register written
 abbrev pub wrote : Config → ℕ → ℕ → Config
-wrote c d x = record { point = c .point + 1; registers = set (c .registers) d x; trays = c .trays; results = c .results }
+wrote c d x = record { point = c .point + 1; registers = set (c .registers) d x; tables = c .tables }
 
 -- on to another point
 abbrev pub went : Config → ℕ → Config
-went c p = record { point = p; registers = c .registers; trays = c .trays; results = c .results }
+went c p = record { point = p; registers = c .registers; tables = c .tables }
 
 -- on to the next point with bytes of the results written
 abbrev pub stored : Config → List ℕ → Config
-stored c rs = record { point = c .point + 1; registers = c .registers; trays = c .trays; results = rs }
+stored c rs = record { point = c .point + 1; registers = c .registers; tables = lent (c .tables .trays) rs }
 
 -- what comes of a step: a configuration; 'stopped' at STOP, which makes no step; or the 'error state'
 pub data Step : Type 0 where
@@ -127,9 +144,9 @@ stepOf (Mulw d i o) c = next (wrote c d (product (valueOf c i) (operandValue c o
 stepOf (Divf d i o) c =
     cond (eqb (operandValue c o) 0) errorState (next (wrote c d (quotient (valueOf c i) (operandValue c o))))
 stepOf (Load d w b a i k) c =
-    inside (address a (valueOf c i) k) w (tableOf b c) (wrote c d (readBytes (bytesOf w) (tableOf b c) (address a (valueOf c i) k)))
+    inside (address a (valueOf c i) k) w (tableOf b (c .tables)) (wrote c d (readBytes (bytesOf w) (tableOf b (c .tables)) (address a (valueOf c i) k)))
 stepOf (Stor v w a i k) c =
-    inside (address a (valueOf c i) k) w (c .results) (stored c (writeBytes (bytesOf w) (c .results) (address a (valueOf c i) k) (valueOf c v)))
+    inside (address a (valueOf c i) k) w (c .tables .results) (stored c (writeBytes (bytesOf w) (c .tables .results) (address a (valueOf c i) k) (valueOf c v)))
 stepOf (Jump t) c = next (went c t)
 stepOf (Bltu i t o) c = next (went c (cond (ltb (valueOf c i) (operandValue c o)) t (c .point + 1)))
 stepOf (Bequ i t o) c = next (went c (cond (eqb (valueOf c i) (operandValue c o)) t (c .point + 1)))

@@ -5,7 +5,7 @@ use mathlib.Core.Bool.{cond}
 use mathlib.Core.List.{List, [], _∷_}
 use lib.ListN.{replicate}
 use lib.Dec.{eqb}
-use Rattle.model.specs.Types.{Field, Blank, Number, Refusal, Verdict, Passed, turnedBack}
+use Rattle.model.specs.Types.{Field, Blank, Number, Refusal, Verdict, Passed, refusedVerdict}
 use Rattle.model.specs.Limits.{lineBytes}
 use Rattle.model.specs.Text.{space}
 use Rattle.model.specs.Words.{bytes}
@@ -28,4 +28,4 @@ failFields r = Number (numberOf r) ∷ Blank ∷ Blank ∷ Blank ∷ placeField 
 unfoldable pub printed : Verdict → List ℕ
 unfolding lineSet
 printed (Passed n) = lineSet (replicate lineBytes space) (bytes "PASS") (passFields n)
-printed (turnedBack r) = lineSet (replicate lineBytes space) (bytes "FAIL") (failFields r)
+printed (refusedVerdict r) = lineSet (replicate lineBytes space) (bytes "FAIL") (failFields r)

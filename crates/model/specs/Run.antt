@@ -1,38 +1,46 @@
 -- Document 01, 'Turned back' and 'The runs of demand 3': a run with its budget, refusals 15 to 17, and what it hands back.
--- A run repeats 1 to 14, then tests 15 for both tables, 16 and 17. A refused run hands back what it was handed, with 0 steps.
+-- A run repeats 1 to 14, then tests 15 for all tables, 16 and 17. A refused run hands back what it was handed, with 0 steps.
 use Prim.Native.Nat.{ℕ, zero, suc, _+_}
 use mathlib.Core.Bool.{Bool, true, false, _&&_, cond}
 use mathlib.Core.List.{List}
 use lib.ListN.{length}
 use lib.Dec.{leb, ltb}
-use Rattle.model.specs.Types.{Instruction, Stop, Setc, Copy, Addw, Subw, Mulw, Divf, Load, Stor, Jump, Bltu, Bequ, State, TableLength, ClaimsNotMet, Judgement, Accepted, refused, Stopped, Paused, notRun, Outcome}
+use Rattle.model.specs.Types.{State, TableLength, ClaimsNotMet, Judgement, Accepted, refused, Stopped, Paused, refusedRun, Outcome}
 use Rattle.model.specs.Limits.{greatestSize}
+use Rattle.model.specs.Lists.{every}
 use Rattle.model.specs.Answers.{_andThen_}
+use Rattle.model.specs.Instructions.{isStop}
 use Rattle.model.specs.Facts.{factsOf, meets}
 use Rattle.model.specs.Listing.{Point, pointAt, listingOf, pointsOf, pointExists}
-use Rattle.model.specs.Machine.{Config, configOf, stateOf, valuesFrom, Step, next, stopped, errorState, instructionAt, stepOf, stepAt}
+use Rattle.model.specs.Machine.{Tables, Config, sizesOf, configOf, stateOf, valuesFrom, Step, next, stopped, errorState, instructionAt, stepOf, stepAt}
 use Rattle.model.specs.Check.{listingJudged, check}
 
--- a state 'meets the claims' of its point, over tables of n and m bytes: the point exists, and the values of all variables meet its facts
-unfoldable pub meetsClaims : List Point → State → ℕ → ℕ → Bool
+-- a state 'meets the claims' of its point, over tables of these sizes: the point exists, and the values of all variables meet its facts
+unfoldable pub meetsClaims : List Point → State → List ℕ → Bool
 unfolding meets factsOf
-meetsClaims ps s n m =
-    ltb (s .point) (length ps) && meets (valuesFrom (s .registers) n m) (factsOf (pointAt ps (s .point) .claims))
+meetsClaims ps s sizes =
+    ltb (s .point) (length ps) && meets (valuesFrom (s .registers) sizes) (factsOf (pointAt ps (s .point) .claims))
+
+-- a table of n bytes is not too long
+abbrev pub sizeFits : ℕ → Bool
+sizeFits n = leb n greatestSize
 
 -- 15: no table is too long
-abbrev pub tablesFit : ℕ → ℕ → Judgement
-tablesFit n m = cond (leb n greatestSize && leb m greatestSize) Accepted (refused TableLength)
+abbrev pub tablesFit : List ℕ → Judgement
+tablesFit sizes = cond (every sizeFits sizes) Accepted (refused TableLength)
 
 -- 17: the state meets the claims of its point
-abbrev pub claimsMet : List Point → State → ℕ → ℕ → Judgement
-claimsMet ps s n m = cond (meetsClaims ps s n m) Accepted (refused ClaimsNotMet)
+abbrev pub claimsMet : List Point → State → List ℕ → Judgement
+claimsMet ps s sizes = cond (meetsClaims ps s sizes) Accepted (refused ClaimsNotMet)
 
--- 1 to 17, in order, for a listing, a state and tables of n and m bytes
-unfoldable pub runJudged : List ℕ → State → ℕ → ℕ → Judgement
-unfolding listingOf check meetsClaims
-runJudged l s n m =
-    listingJudged (listingOf l) andThen tablesFit n m andThen pointExists (pointsOf (listingOf l)) (s .point)
-    andThen claimsMet (pointsOf (listingOf l)) s n m
+-- 15 to 17, in order, for a state and tables of these sizes
+abbrev pub stateJudged : List Point → State → List ℕ → Judgement
+stateJudged ps s sizes = tablesFit sizes andThen pointExists ps (s .point) andThen claimsMet ps s sizes
+
+-- 1 to 17, in order, for a listing, a state and tables of these sizes
+unfoldable pub runJudged : List ℕ → State → List ℕ → Judgement
+unfolding listingOf check every meetsClaims
+runJudged l s sizes = listingJudged (listingOf l) andThen stateJudged (pointsOf (listingOf l)) s sizes
 
 -- the steps made so far, and where they led
 pub record Progress : Type 0 where
@@ -43,7 +51,7 @@ pub record Progress : Type 0 where
 abbrev pub progress : ℕ → Config → Progress
 progress n c = record { steps = n; config = c }
 
--- one step more where the machine makes one
+-- one step more where the machine makes one; a run that is accepted never meets the error state, by the promise of the chapter Safety
 abbrev pub advanced : Progress → Step → Progress
 advanced p (next c) = progress (p .steps + 1) c
 advanced p stopped = p
@@ -55,45 +63,28 @@ unfolding stepOf
 runFor ps zero c = progress 0 c
 runFor ps (suc n) c = let p = runFor ps n c in advanced p (stepAt ps (p .config))
 
--- the instruction is STOP
-abbrev pub isStop : Instruction → Bool
-isStop Stop = true
-isStop (Setc d c) = false
-isStop (Copy d i) = false
-isStop (Addw d i o) = false
-isStop (Subw d i o) = false
-isStop (Mulw d i o) = false
-isStop (Divf d i o) = false
-isStop (Load d w b a i k) = false
-isStop (Stor v w a i k) = false
-isStop (Jump t) = false
-isStop (Bltu i t o) = false
-isStop (Bequ i t o) = false
-
 -- the configuration stands at STOP
-abbrev pub stands : List Point → Config → Bool
-stands ps c = isStop (instructionAt ps c)
+abbrev pub atStop : List Point → Config → Bool
+atStop ps c = isStop (instructionAt ps c)
 
--- what a run hands back: its outcome, and the bytes of both tables
+-- what a run hands back: its outcome, and the bytes of the tables
 pub record Ran : Type 0 where
   pub outcome : Outcome
-  pub trays : List ℕ
-  pub results : List ℕ
+  pub tables : Tables
 
 -- 'stopped' where it stands at STOP, else 'paused'
 abbrev pub finished : List Point → Progress → Ran
 finished ps p = record {
-  outcome = record { report = cond (stands ps (p .config)) Stopped Paused; state = stateOf (p .config); steps = p .steps };
-  trays = p .config .trays;
-  results = p .config .results;
+  outcome = record { report = cond (atStop ps (p .config)) Stopped Paused; state = stateOf (p .config); steps = p .steps };
+  tables = p .config .tables;
 }
 
 -- the run, where nothing turns it back
-abbrev pub ranFrom : Judgement → List Point → State → List ℕ → List ℕ → ℕ → Ran
-ranFrom Accepted ps s ts rs budget = finished ps (runFor ps budget (configOf s ts rs))
-ranFrom (refused r) ps s ts rs budget = record { outcome = record { report = notRun r; state = s; steps = 0 }; trays = ts; results = rs }
+abbrev pub ranFrom : Judgement → List Point → State → Tables → ℕ → Ran
+ranFrom Accepted ps s t budget = finished ps (runFor ps budget (configOf s t))
+ranFrom (refused r) ps s t budget = record { outcome = record { report = refusedRun r; state = s; steps = 0 }; tables = t }
 
 -- a run of a listing from a state over tables with a budget
-unfoldable pub run : List ℕ → State → List ℕ → List ℕ → ℕ → Ran
+unfoldable pub run : List ℕ → State → Tables → ℕ → Ran
 unfolding runJudged runFor
-run l s ts rs budget = ranFrom (runJudged l s (length ts) (length rs)) (pointsOf (listingOf l)) s ts rs budget
+run l s t budget = ranFrom (runJudged l s (sizesOf t)) (pointsOf (listingOf l)) s t budget

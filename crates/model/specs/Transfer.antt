@@ -1,6 +1,8 @@
 -- Document 01, 'What a step does to claims': the ranges and the stripes along each edge of an instruction.
--- The new ends of all ranges are computed from the ends before the step. Ends are whole numbers; where one falls below 0 the range is
--- written as one that holds nothing, since only its emptiness counts: an edge with an empty range is impossible.
+-- The new ends of all ranges are computed from the ends before the step. Ends are whole numbers, and of an empty range only its emptiness
+-- counts: an edge with an empty range is impossible. A high end that falls below 0 is written as a range that holds nothing, or stands as
+-- 0 where the low end is at least 1 already (`without`). Where i is o, the change of o acts on the range that the change of i has made; that
+-- is the same as both at once, since the one moves the low end and the other the high end, and an overlap of a range with itself is the range.
 use Prim.Native.Nat.{ℕ, _+_, _*_, _-_, _^_, min, max}
 use mathlib.Core.Bool.{Bool, not, _&&_, _||_, cond}
 use mathlib.Core.List.{List, [], _∷_, _++_, map}
@@ -10,7 +12,7 @@ use Rattle.model.specs.Types.{Operand, variable, number, Instruction, St
 use Rattle.model.specs.Limits.{MAX, blankVariable, greatestScale, greatestBound}
 use Rattle.model.specs.Lists.{kept}
 use Rattle.model.specs.Facts.{between, exactly, registerRange, Facts, rangeOf, nonEmpty}
-use Rattle.model.specs.Listing.{targets, goesOn}
+use Rattle.model.specs.Instructions.{targets, goesOn}
 use Rattle.model.specs.Machine.{bytesOf, quotient}
 
 -- the edges of an instruction to its successors: to the next point, then to the target
@@ -45,7 +47,7 @@ sumRange r q = between (r .lo + q .lo) (r .hi + q .hi)
 abbrev pub differenceFits : Range → Range → Bool
 differenceFits r q = leb (q .hi) (r .lo)
 
--- SUBW: lo(i) − hi(o) to hi(i) − lo(o); nothing where the high end falls below 0
+-- SUBW: lo(i) − hi(o) to hi(i) − lo(o); nothing where the high end falls below 0. Both are exact: the rule asks for hi(o) ≤ lo(i), the test for lo(o) ≤ hi(i)
 abbrev pub differenceRange : Range → Range → Range
 differenceRange r q = cond (leb (q .lo) (r .hi)) (between (r .lo - q .hi) (r .hi - q .lo)) nothing
 

@@ -35,8 +35,8 @@ pub use Rattle.model.specs.declared.answers.Refusal.the-variants.{Listin
 pub use Rattle.model.specs.declared.answers.Judgement.{Judgement}
 pub use Rattle.model.specs.declared.answers.Judgement.the-variants.{Accepted, Refused as refused}
 pub use Rattle.model.specs.declared.answers.Verdict.{Verdict}
-pub use Rattle.model.specs.declared.answers.Verdict.the-variants.{Passed, Refused as turnedBack}
+pub use Rattle.model.specs.declared.answers.Verdict.the-variants.{Passed, Refused as refusedVerdict}
 pub use Rattle.model.specs.declared.answers.ClaimPart.{ClaimPart}
 pub use Rattle.model.specs.declared.answers.Report.{Report}
-pub use Rattle.model.specs.declared.answers.Report.the-variants.{Stopped, Paused, Refused as notRun}
+pub use Rattle.model.specs.declared.answers.Report.the-variants.{Stopped, Paused, Refused as refusedRun}
 pub use Rattle.model.specs.declared.answers.Outcome.{Outcome}

@@ -10,6 +10,7 @@ use lib.ListN.{getD}
 use lib.Dec.{leb, ltb, eqb}
 use Rattle.model.specs.Types.{Field, Blank, Number, Negative, Misshapen, Word, STOP, SETC, COPY, ADDW, SUBW, MULW, DIVF, LOAD, STOR, JUMP, BLTU, BEQU, LEAS, MOST, STRP, FoundWord, Unknown, Known, Content, aRegister, aVariable, aTarget, aWidth, aTable, aScale, anOffset, aNumber, aChoice, anOperand, aClaimed, aBound, Kind, empty, plain, optional, signed}
 use Rattle.model.specs.Limits.{registers, tables, variables, MAX, greatestSize, greatestScale, greatestOffset, greatestBound, greatestPoints}
+use Rattle.model.specs.Text.{valueIn}
 
 -- the bytes of a text
 abbrev pub bytes : String → List ℕ
@@ -114,10 +115,10 @@ within anOperand f1 f5 v = cond (eqb f5 0) (ltb v variables) (leb v MAX)
 within aClaimed f1 f5 v = cond (ltb f1 registers) (leb v MAX) (leb v greatestSize)
 within aBound f1 f5 v = leb v greatestBound
 
--- a blank has no number to test
-unfoldable pub allowed : Kind → ℕ → ℕ → ℕ → Bool
-unfolding within
-allowed empty f1 f5 v = true
-allowed (plain c) f1 f5 v = within c f1 f5 v
-allowed (optional c) f1 f5 v = within c f1 f5 v
-allowed (signed c) f1 f5 v = within c f1 f5 v
+-- a field of this kind lies within its limits: those of its number, and none where it may be blank and is
+unfoldable pub allowed : Kind → ℕ → ℕ → Field → Bool
+unfolding within shaped
+allowed empty f1 f5 f = true
+allowed (plain c) f1 f5 f = within c f1 f5 (valueIn f)
+allowed (optional c) f1 f5 f = shaped empty f || within c f1 f5 (valueIn f)
+allowed (signed c) f1 f5 f = within c f1 f5 (valueIn f)

@@ -1,5 +1,8 @@
 // Claims: ranges, stripes, and the lines that write them.
 use crate::answers::Refusal;
+use crate::limits::GREATEST_SIZE;
+use crate::limits::MAX;
+use crate::limits::REGISTERS;
 use crate::machine::Instruction;
 ghost use mathlib.Core.Path.{_≡_};
 ghost use Rattle.model.specs.Facts;
@@ -14,12 +17,12 @@ pub struct Range {
 
 impl Range {
     // The unclaimed range of a register.
-    pub const REGISTER: Range = Range {
-        lo: 0,
-        hi: 4_294_967_295,
-    };
+    pub const REGISTER: Range = Range { lo: 0, hi: MAX };
     // The unclaimed range of a size.
-    pub const SIZE: Range = Range { lo: 0, hi: 65_536 };
+    pub const SIZE: Range = Range {
+        lo: 0,
+        hi: GREATEST_SIZE,
+    };
 
     // The range from one number to another.
     pub fn between(lo: u64, hi: u64) -> Range
@@ -46,7 +49,11 @@ impl Range {
     pub fn unclaimed(v: usize) -> Range
         ensures { λ r. ⌜ r ≡ unclaimedRange v ⌝ }
     {
-        if v < 16 { Range::REGISTER } else { Range::SIZE }
+        if v < REGISTERS {
+            Range::REGISTER
+        } else {
+            Range::SIZE
+        }
     }
 }
 

@@ -1,4 +1,5 @@
 // The machine: its instructions and its state.
+use crate::limits::REGISTERS;
 // How many bytes an access takes.
 pub enum Width {
     One,
@@ -89,5 +90,5 @@ pub enum Edge {
 #[repr(C)]
 pub struct State {
     pub point: usize,
-    pub registers: [u32; 16],
+    pub registers: [u32; REGISTERS],
 }

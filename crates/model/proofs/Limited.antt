@@ -1,73 +1,19 @@
 -- What the fields of an accepted line may hold: the limits of every instruction and claim that is read. Assumes nothing.
 use mathlib.Core.Path.{_≡_, refl}
-use mathlib.Core.Bool.{Bool, true, false, _&&_, cond}
+use mathlib.Core.Bool.{Bool, true, false, _&&_, _||_, cond}
 use mathlib.Core.List.{List}
 use Prim.Native.Nat.{ℕ, _≤_, _<_}
 use native.Mathlib.Omega.{arith}
 use lib.Dec.{ltb, leb, eqb}
 use borrow.Author.Tests.{ltb-true, leb-true}
-use Rattle.model.specs.Types.{Field, Blank, Number, Negative, Misshapen, Word, STOP, SETC, COPY, ADDW, SUBW, MULW, DIVF, LOAD, STOR, JUMP, BLTU, BEQU, LEAS, MOST, STRP, FoundWord, Unknown, Known, Operand, variable, number, Instruction, Stop, Setc, Copy, Addw, Subw, Mulw, Divf, Load, Stor, Jump, Bltu, Bequ, Stripe, Claim, Leas, Most, Strp, Line, refusedLine, claimLine, instructionLine, LineBytes, FieldShape, NumberLimits, Accepted, refused}
+use Rattle.model.specs.Types.{Field, Blank, Number, Negative, Misshapen, Word, STOP, SETC, COPY, ADDW, SUBW, MULW, DIVF, LOAD, STOR, JUMP, BLTU, BEQU, LEAS, MOST, STRP, FoundWord, Unknown, Known, empty, variable, number, refusedLine, LineBytes, FieldShape, NumberLimits, Accepted, refused}
 use Rattle.model.specs.Limits.{registers, variables, MAX, greatestSize, greatestScale, greatestOffset, greatestBound, greatestPoints}
 use Rattle.model.specs.Text.{valueIn}
-use Rattle.model.specs.Words.{words, wordAmong, fieldsOf, within, allowed}
+use Rattle.model.specs.Words.{words, wordAmong, fieldsOf, shaped, within, allowed}
 use Rattle.model.specs.Lines.{wellSpelled, fieldsIn, fieldAt, F1, F2, F3, F4, F5, F6, kindAt, inShape, inLimits, judged, operandFrom, variableOrBlank, plusIn, minusIn, lineFrom, lineOr, lineFound, readLine}
 use Rattle.model.specs.Facts.{registerRange, sizeRange, unclaimedRange}
+use Rattle.model.specs.Limited.{OperandLimited, ArithmeticLimited, AccessLimited, BranchLimited, LineLimited}
 use Rattle.model.proofs.Tests.{and-left, and-right, cond-cases, every-below}
-
-abbrev pub OperandLimited : Operand → Type 0
-OperandLimited (variable v) = v < variables
-OperandLimited (number n) = n ≤ MAX
-
-pub record ArithmeticLimited (d i : ℕ) (o : Operand) : Type 0 where
-  pub register : d < registers
-  pub variable : i < variables
-  pub operand : OperandLimited o
-
-pub record AccessLimited (a i k : ℕ) : Type 0 where
-  pub scaled : 1 ≤ a
-  pub scale : a ≤ greatestScale
-  pub variable : i < variables
-  pub offset : k ≤ greatestOffset
-
-pub record BranchLimited (i t : ℕ) (o : Operand) : Type 0 where
-  pub variable : i < variables
-  pub target : t < greatestPoints
-  pub operand : OperandLimited o
-
-pub record StripeLimited (s : Stripe) : Type 0 where
-  pub x : s .x < variables
-  pub scaled : 1 ≤ s .a
-  pub scale : s .a ≤ greatestScale
-  pub y : s .y < variables
-  pub z : s .z ≤ variables
-  pub plus : s .plus ≤ greatestBound
-  pub minus : s .minus ≤ greatestBound
-
--- the limits of an instruction
-abbrev pub Limited : Instruction → Type 0
-Limited Stop = Unit {0}
-Limited (Setc d c) = (d < registers) × (c ≤ MAX)
-Limited (Copy d i) = (d < registers) × (i < variables)
-Limited (Addw d i o) = ArithmeticLimited d i o
-Limited (Subw d i o) = ArithmeticLimited d i o
-Limited (Mulw d i o) = ArithmeticLimited d i o
-Limited (Divf d i o) = ArithmeticLimited d i o
-Limited (Load d w b a i k) = (d < registers) × AccessLimited a i k
-Limited (Stor v w a i k) = (v < variables) × AccessLimited a i k
-Limited (Jump t) = t < greatestPoints
-Limited (Bltu i t o) = BranchLimited i t o
-Limited (Bequ i t o) = BranchLimited i t o
-
--- the limits of a claim
-abbrev pub ClaimLimited : Claim → Type 0
-ClaimLimited (Leas v n) = (v < variables) × (n ≤ unclaimedRange v .hi)
-ClaimLimited (Most v n) = (v < variables) × (n ≤ unclaimedRange v .hi)
-ClaimLimited (Strp s) = StripeLimited s
-
-abbrev pub LineLimited : Line → Type 0
-LineLimited (refusedLine r) = Unit {0}
-LineLimited (claimLine c) = ClaimLimited c
-LineLimited (instructionLine i) = Limited i
 
 operand-limited : (f5 v : ℕ) → cond (eqb f5 0) (ltb v variables) (leb v MAX) ≡ true → OperandLimited (operandFrom f5 v)
 operand-limited f5 v e = go (eqb f5 0) e
@@ -83,11 +29,12 @@ claimed-limited f1 v e = go (ltb f1 registers) e
     go true t = leb-true v MAX t
     go false t = leb-true v greatestSize t
 
-blank-limited : (f : Field) → valueIn f < variables → variableOrBlank f ≤ variables
-blank-limited Blank h = omega arith
-blank-limited (Number v) h = omega arith
-blank-limited (Negative v) h = omega arith
-blank-limited Misshapen h = omega arith
+blank-limited : (f : Field) → (shaped empty f || ltb (valueIn f) variables) ≡ true → variableOrBlank f ≤ variables
+unfolding shaped
+blank-limited Blank e = omega arith
+blank-limited (Number v) e = omega (arith, ltb-true v variables e)
+blank-limited (Negative v) e = omega (arith, ltb-true v variables e)
+blank-limited Misshapen e = omega arith
 
 bound-limited : (f : Field) (m : ℕ) → valueIn f ≤ m → (plusIn f ≤ m) × (minusIn f ≤ m)
 bound-limited Blank m h = omega arith
@@ -100,14 +47,14 @@ scale-limited v e = (leb-true 1 v (and-left (leb 1 v) _ e), leb-true v greatestS
 
 -- each word, by the limits of its fields
 module _ (fs : List Field) where
-  field-allowed : (w : Word) → inLimits w fs ≡ true → (j : ℕ) → j < 6 → allowed (kindAt w j) (F1 fs) (F5 fs) (valueIn (fieldAt fs j)) ≡ true
+  field-allowed : (w : Word) → inLimits w fs ≡ true → (j : ℕ) → j < 6 → allowed (kindAt w j) (F1 fs) (F5 fs) (fieldAt fs j) ≡ true
   unfolding inLimits
-  field-allowed w e j h = every-below (λ (j : ℕ). allowed (kindAt w j) (F1 fs) (F5 fs) (valueIn (fieldAt fs j))) 6 e j h
+  field-allowed w e j h = every-below (λ (j : ℕ). allowed (kindAt w j) (F1 fs) (F5 fs) (fieldAt fs j)) 6 e j h
 
   arithmetic : (w : Word) → inLimits w fs ≡ true
-      → allowed (kindAt w 0) (F1 fs) (F5 fs) (F1 fs) ≡ ltb (F1 fs) registers
-      → allowed (kindAt w 1) (F1 fs) (F5 fs) (F2 fs) ≡ ltb (F2 fs) variables
-      → allowed (kindAt w 5) (F1 fs) (F5 fs) (F6 fs) ≡ cond (eqb (F5 fs) 0) (ltb (F6 fs) variables) (leb (F6 fs) MAX)
+      → allowed (kindAt w 0) (F1 fs) (F5 fs) (fieldAt fs 0) ≡ ltb (F1 fs) registers
+      → allowed (kindAt w 1) (F1 fs) (F5 fs) (fieldAt fs 1) ≡ ltb (F2 fs) variables
+      → allowed (kindAt w 5) (F1 fs) (F5 fs) (fieldAt fs 5) ≡ cond (eqb (F5 fs) 0) (ltb (F6 fs) variables) (leb (F6 fs) MAX)
       → ArithmeticLimited (F1 fs) (F2 fs) (operandFrom (F5 fs) (F6 fs))
   arithmetic w e p q r = record {
     register = ltb-true (F1 fs) registers (rw p at (field-allowed w e 0 (omega arith)));
@@ -116,9 +63,9 @@ module _ (fs : List Field) where
   }
 
   branch : (w : Word) → inLimits w fs ≡ true
-      → allowed (kindAt w 1) (F1 fs) (F5 fs) (F2 fs) ≡ ltb (F2 fs) variables
-      → allowed (kindAt w 3) (F1 fs) (F5 fs) (F4 fs) ≡ ltb (F4 fs) greatestPoints
-      → allowed (kindAt w 5) (F1 fs) (F5 fs) (F6 fs) ≡ cond (eqb (F5 fs) 0) (ltb (F6 fs) variables) (leb (F6 fs) MAX)
+      → allowed (kindAt w 1) (F1 fs) (F5 fs) (fieldAt fs 1) ≡ ltb (F2 fs) variables
+      → allowed (kindAt w 3) (F1 fs) (F5 fs) (fieldAt fs 3) ≡ ltb (F4 fs) greatestPoints
+      → allowed (kindAt w 5) (F1 fs) (F5 fs) (fieldAt fs 5) ≡ cond (eqb (F5 fs) 0) (ltb (F6 fs) variables) (leb (F6 fs) MAX)
       → BranchLimited (F2 fs) (F4 fs) (operandFrom (F5 fs) (F6 fs))
   branch w e p q r = record {
     variable = ltb-true (F2 fs) variables (rw p at (field-allowed w e 1 (omega arith)));
@@ -127,9 +74,9 @@ module _ (fs : List Field) where
   }
 
   access : (w : Word) → inLimits w fs ≡ true
-      → allowed (kindAt w 3) (F1 fs) (F5 fs) (F4 fs) ≡ (leb 1 (F4 fs) && leb (F4 fs) greatestScale)
-      → allowed (kindAt w 4) (F1 fs) (F5 fs) (F5 fs) ≡ ltb (F5 fs) variables
-      → allowed (kindAt w 5) (F1 fs) (F5 fs) (F6 fs) ≡ leb (F6 fs) greatestOffset
+      → allowed (kindAt w 3) (F1 fs) (F5 fs) (fieldAt fs 3) ≡ (leb 1 (F4 fs) && leb (F4 fs) greatestScale)
+      → allowed (kindAt w 4) (F1 fs) (F5 fs) (fieldAt fs 4) ≡ ltb (F5 fs) variables
+      → allowed (kindAt w 5) (F1 fs) (F5 fs) (fieldAt fs 5) ≡ leb (F6 fs) greatestOffset
       → AccessLimited (F4 fs) (F5 fs) (F6 fs)
   access w e p q r =
       let s = scale-limited (F4 fs) (rw p at (field-allowed w e 3 (omega arith))) in
@@ -164,7 +111,7 @@ module _ (fs : List Field) where
         scaled = s .0;
         scale = s .1;
         y = ltb-true (F3 fs) variables (field-allowed STRP e 2 (omega arith));
-        z = blank-limited (fieldAt fs 3) (ltb-true (F4 fs) variables (field-allowed STRP e 3 (omega arith)));
+        z = blank-limited (fieldAt fs 3) (field-allowed STRP e 3 (omega arith));
         plus = b .0;
         minus = b .1;
       }
