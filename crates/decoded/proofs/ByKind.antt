@@ -1,18 +1,19 @@
 -- The instruction of a row by its kind, in the order of the tests. Assumes nothing.
-use mathlib.Core.Path.{_≡_, refl, ap, _∙_}
-use mathlib.Core.Bool.{Bool, true, false, cond}
-use mathlib.Core.List.{[], _∷_}
-use Prim.Native.Nat.{ℕ, _+_, _%_, _≤_, _<_}
-use native.Mathlib.Decide.{ℕ-discrete}
-use native.Mathlib.Omega.{arith}
+use mathlib.Core.Path.{_≡_, refl, sym, ap, _∙_}
+use mathlib.Core.Bool.{Bool, true, false, not, cond, false≢true}
+use mathlib.Core.List.{List, [], _∷_}
+use Prim.Native.Nat.{ℕ, _%_}
 use lib.Dec.{eqb}
 use borrow.Author.Tests.{ne-eqb}
+use Rattle.model.specs.Limits as Limits
 use Rattle.model.specs.declared.machine.Instruction.{Instruction}
 use Rattle.model.specs.declared.machine.Instruction.the-variants.{Stop, Setc, Copy, Addw, Subw, Mulw, Divf, Load, Stor, Jump, Bltu, Bequ}
 use Rattle.model.specs.Lines.{widthFrom, tableFrom}
-use Rattle.model.specs.Listing.{targets}
-use Rattle.model.specs.Run.{isStop}
+use Rattle.model.specs.Lists.{isEmpty}
+use Rattle.model.specs.Instructions.{targets, hasTarget, isStop}
+use Rattle.model.proofs.Tests.{cond-cases}
 use Rattle.decoded.specs.declared.rows.Row.{Row}
+use Rattle.decoded.specs.Kinds.{STOP, SETC, COPY, ADDW, SUBW, MULW, DIVF, LOAD, STOR, JUMP, BLTU}
 use Rattle.decoded.specs.Decoded.{operandOf, branchFrom, accessFrom, arithmeticFrom, instructionFrom}
 
 -- a choice of two instructions that are no STOP
@@ -20,114 +21,126 @@ no-stop : (b : Bool) (i j : Instruction) → isStop i ≡ false → isStop j ≡
 no-stop true i j e f = e
 no-stop false i j e f = f
 
-above : (k n : ℕ) → n ≤ k → (k ≡ n → ⊥) → n + 1 ≤ k
-above k n h d = omega arith
-
-nine : (k : ℕ) → 9 ≤ k → k < 10 → k ≡ 9
-nine k h l = omega arith
-
 module _ (r : Row) where
-  pub stop-row : r .kind ≡ 1 → instructionFrom r ≡ Stop
+  pub stop-row : r .kind ≡ STOP → instructionFrom r ≡ Stop
   unfolding instructionFrom
   stop-row e = rw e
 
-  pub setc-row : r .kind ≡ 2 → instructionFrom r ≡ Setc (r .first) (r .sixth % 4294967296)
+  pub setc-row : r .kind ≡ SETC → instructionFrom r ≡ Setc (r .first) (r .sixth % Limits.modulus)
   unfolding instructionFrom
   setc-row e = rw e
 
-  pub copy-row : r .kind ≡ 3 → instructionFrom r ≡ Copy (r .first) (r .second)
+  pub copy-row : r .kind ≡ COPY → instructionFrom r ≡ Copy (r .first) (r .second)
   unfolding instructionFrom
   copy-row e = rw e
 
   -- from ADDW on
-  pub arithmetic-row : (r .kind ≡ 1 → ⊥) → (r .kind ≡ 2 → ⊥) → (r .kind ≡ 3 → ⊥) → instructionFrom r ≡ arithmeticFrom r
+  pub arithmetic-row : (r .kind ≡ STOP → ⊥) → (r .kind ≡ SETC → ⊥) → (r .kind ≡ COPY → ⊥) → instructionFrom r ≡ arithmeticFrom r
   unfolding instructionFrom
   arithmetic-row a b c = rw (ne-eqb _ _ a, ne-eqb _ _ b, ne-eqb _ _ c)
 
-  pub addw-row : r .kind ≡ 4 → arithmeticFrom r ≡ Addw (r .first) (r .second) (operandOf r)
+  pub addw-row : r .kind ≡ ADDW → arithmeticFrom r ≡ Addw (r .first) (r .second) (operandOf r)
   addw-row e = rw e
 
-  pub subw-row : r .kind ≡ 5 → arithmeticFrom r ≡ Subw (r .first) (r .second) (operandOf r)
+  pub subw-row : r .kind ≡ SUBW → arithmeticFrom r ≡ Subw (r .first) (r .second) (operandOf r)
   subw-row e = rw e
 
-  pub mulw-row : r .kind ≡ 6 → arithmeticFrom r ≡ Mulw (r .first) (r .second) (operandOf r)
+  pub mulw-row : r .kind ≡ MULW → arithmeticFrom r ≡ Mulw (r .first) (r .second) (operandOf r)
   mulw-row e = rw e
 
-  pub divf-row : r .kind ≡ 7 → arithmeticFrom r ≡ Divf (r .first) (r .second) (operandOf r)
+  pub divf-row : r .kind ≡ DIVF → arithmeticFrom r ≡ Divf (r .first) (r .second) (operandOf r)
   divf-row e = rw e
 
   -- from LOAD on
-  pub access-row : (r .kind ≡ 4 → ⊥) → (r .kind ≡ 5 → ⊥) → (r .kind ≡ 6 → ⊥) → (r .kind ≡ 7 → ⊥) → arithmeticFrom r ≡ accessFrom r
+  pub access-row : (r .kind ≡ ADDW → ⊥) → (r .kind ≡ SUBW → ⊥) → (r .kind ≡ MULW → ⊥) → (r .kind ≡ DIVF → ⊥) → arithmeticFrom r ≡ accessFrom r
   access-row a b c d = rw (ne-eqb _ _ a, ne-eqb _ _ b, ne-eqb _ _ c, ne-eqb _ _ d)
 
-  pub load-row : r .kind ≡ 8 → accessFrom r ≡ Load (r .first) (widthFrom (r .second)) (tableFrom (r .third)) (r .fourth) (r .fifth) (r .sixth)
+  pub load-row : r .kind ≡ LOAD → accessFrom r ≡ Load (r .first) (widthFrom (r .second)) (tableFrom (r .third)) (r .fourth) (r .fifth) (r .sixth)
   load-row e = rw e
 
-  pub stor-row : r .kind ≡ 9 → accessFrom r ≡ Stor (r .first) (widthFrom (r .second)) (r .fourth) (r .fifth) (r .sixth)
+  pub stor-row : r .kind ≡ STOR → accessFrom r ≡ Stor (r .first) (widthFrom (r .second)) (r .fourth) (r .fifth) (r .sixth)
   stor-row e = rw e
 
   -- from JUMP on
-  pub branch-row : (r .kind ≡ 8 → ⊥) → (r .kind ≡ 9 → ⊥) → accessFrom r ≡ branchFrom r
+  pub branch-row : (r .kind ≡ LOAD → ⊥) → (r .kind ≡ STOR → ⊥) → accessFrom r ≡ branchFrom r
   branch-row a b = rw (ne-eqb _ _ a, ne-eqb _ _ b)
 
-  pub jump-row : r .kind ≡ 10 → branchFrom r ≡ Jump (r .fourth)
+  pub jump-row : r .kind ≡ JUMP → branchFrom r ≡ Jump (r .fourth)
   jump-row e = rw e
 
-  pub bltu-row : r .kind ≡ 11 → branchFrom r ≡ Bltu (r .second) (r .fourth) (operandOf r)
+  pub bltu-row : r .kind ≡ BLTU → branchFrom r ≡ Bltu (r .second) (r .fourth) (operandOf r)
   bltu-row e = rw e
 
-  pub bequ-row : (r .kind ≡ 10 → ⊥) → (r .kind ≡ 11 → ⊥) → branchFrom r ≡ Bequ (r .second) (r .fourth) (operandOf r)
+  pub bequ-row : (r .kind ≡ JUMP → ⊥) → (r .kind ≡ BLTU → ⊥) → branchFrom r ≡ Bequ (r .second) (r .fourth) (operandOf r)
   bequ-row a b = rw (ne-eqb _ _ a, ne-eqb _ _ b)
 
   branch-goes : isStop (branchFrom r) ≡ false
-  branch-goes = no-stop (eqb (r .kind) 10) (Jump _) _ refl (no-stop (eqb (r .kind) 11) (Bltu _ _ _) (Bequ _ _ _) refl refl)
+  branch-goes = no-stop (eqb (r .kind) JUMP) (Jump _) _ refl (no-stop (eqb (r .kind) BLTU) (Bltu _ _ _) (Bequ _ _ _) refl refl)
 
   access-goes : isStop (accessFrom r) ≡ false
-  access-goes = no-stop (eqb (r .kind) 8) (Load _ _ _ _ _ _) _ refl (no-stop (eqb (r .kind) 9) (Stor _ _ _ _ _) (branchFrom r) refl branch-goes)
+  access-goes = no-stop (eqb (r .kind) LOAD) (Load _ _ _ _ _ _) _ refl (no-stop (eqb (r .kind) STOR) (Stor _ _ _ _ _) (branchFrom r) refl branch-goes)
 
   arithmetic-goes : isStop (arithmeticFrom r) ≡ false
   arithmetic-goes =
-      no-stop (eqb (r .kind) 4) (Addw _ _ _) _ refl
-      (no-stop (eqb (r .kind) 5) (Subw _ _ _) _ refl
-      (no-stop (eqb (r .kind) 6) (Mulw _ _ _) _ refl
-      (no-stop (eqb (r .kind) 7) (Divf _ _ _) (accessFrom r) refl access-goes)))
+      no-stop (eqb (r .kind) ADDW) (Addw _ _ _) _ refl
+      (no-stop (eqb (r .kind) SUBW) (Subw _ _ _) _ refl
+      (no-stop (eqb (r .kind) MULW) (Mulw _ _ _) _ refl
+      (no-stop (eqb (r .kind) DIVF) (Divf _ _ _) (accessFrom r) refl access-goes)))
 
   -- the kind tells STOP from every other instruction
-  pub stop-kind : isStop (instructionFrom r) ≡ eqb (r .kind) 1
+  pub stop-kind : isStop (instructionFrom r) ≡ eqb (r .kind) STOP
   unfolding instructionFrom
-  stop-kind = go (eqb (r .kind) 1)
+  stop-kind = go (eqb (r .kind) STOP)
     where
-      go : (b : Bool) → isStop (cond b Stop (cond (eqb (r .kind) 2) (Setc (r .first) (r .sixth % 4294967296)) (cond (eqb (r .kind) 3) (Copy (r .first) (r .second)) (arithmeticFrom r)))) ≡ b
+      go : (b : Bool) → isStop (cond b Stop (cond (eqb (r .kind) SETC) (Setc (r .first) (r .sixth % Limits.modulus)) (cond (eqb (r .kind) COPY) (Copy (r .first) (r .second)) (arithmeticFrom r)))) ≡ b
       go true = refl
-      go false = no-stop (eqb (r .kind) 2) (Setc _ _) _ refl (no-stop (eqb (r .kind) 3) (Copy _ _) (arithmeticFrom r) refl arithmetic-goes)
+      go false = no-stop (eqb (r .kind) SETC) (Setc _ _) _ refl (no-stop (eqb (r .kind) COPY) (Copy _ _) (arithmeticFrom r) refl arithmetic-goes)
 
-  -- from STOP to STOR no instruction names a target
-  pub no-target : 1 ≤ r .kind → r .kind < 10 → targets (instructionFrom r) ≡ []
-  no-target low high = go (ℕ-discrete (r .kind) 1) (ℕ-discrete (r .kind) 2) (ℕ-discrete (r .kind) 3) (ℕ-discrete (r .kind) 4) (ℕ-discrete (r .kind) 5) (ℕ-discrete (r .kind) 6) (ℕ-discrete (r .kind) 7) (ℕ-discrete (r .kind) 8)
-    where
-      go : Dec (r .kind ≡ 1) → Dec (r .kind ≡ 2) → Dec (r .kind ≡ 3) → Dec (r .kind ≡ 4) → Dec (r .kind ≡ 5) → Dec (r .kind ≡ 6) → Dec (r .kind ≡ 7) → Dec (r .kind ≡ 8) → targets (instructionFrom r) ≡ []
-      go (yes e) b c d u f g h = ap targets (stop-row e)
-      go (no a) (yes e) c d u f g h = ap targets (setc-row e)
-      go (no a) (no b) (yes e) d u f g h = ap targets (copy-row e)
-      go (no a) (no b) (no c) (yes e) u f g h = ap targets (arithmetic-row (λ x. omega arith) (λ x. omega arith) (λ x. omega arith) ∙ addw-row e)
-      go (no a) (no b) (no c) (no d) (yes e) f g h = ap targets (arithmetic-row (λ x. omega arith) (λ x. omega arith) (λ x. omega arith) ∙ subw-row e)
-      go (no a) (no b) (no c) (no d) (no u) (yes e) g h = ap targets (arithmetic-row (λ x. omega arith) (λ x. omega arith) (λ x. omega arith) ∙ mulw-row e)
-      go (no a) (no b) (no c) (no d) (no u) (no f) (yes e) h = ap targets (arithmetic-row (λ x. omega arith) (λ x. omega arith) (λ x. omega arith) ∙ divf-row e)
-      go (no a) (no b) (no c) (no d) (no u) (no f) (no g) (yes e) = ap targets (arithmetic-row (λ x. omega arith) (λ x. omega arith) (λ x. omega arith) ∙ access-row (λ x. omega arith) (λ x. omega arith) (λ x. omega arith) (λ x. omega arith) ∙ load-row e)
-      go (no a) (no b) (no c) (no d) (no u) (no f) (no g) (no h) = let e : r .kind ≡ 9 = nine (r .kind) (above (r .kind) 8 (above (r .kind) 7 (above (r .kind) 6 (above (r .kind) 5 (above (r .kind) 4 (above (r .kind) 3 (above (r .kind) 2 (above (r .kind) 1 low a) b) c) d) u) f) g) h) high in ap targets (arithmetic-row (λ x. omega arith) (λ x. omega arith) (λ x. omega arith) ∙ access-row (λ x. omega arith) (λ x. omega arith) (λ x. omega arith) (λ x. omega arith) ∙ stor-row e)
+  -- an instruction that names a target names the number of F4
+  abbrev Named : Instruction → Type 0
+  Named i = hasTarget i ≡ true → targets i ≡ r .fourth ∷ []
 
-  branch-target : targets (branchFrom r) ≡ r .fourth ∷ []
-  branch-target = go (eqb (r .kind) 10) (eqb (r .kind) 11)
-    where
-      go : (a b : Bool) → targets (cond a (Jump (r .fourth)) (cond b (Bltu (r .second) (r .fourth) (operandOf r)) (Bequ (r .second) (r .fourth) (operandOf r)))) ≡ r .fourth ∷ []
-      go true b = refl
-      go false true = refl
-      go false false = refl
+  named-branch : Named (branchFrom r)
+  named-branch =
+      cond-cases Named (eqb (r .kind) JUMP) (Jump _) _ (λ z e. refl)
+      (λ z. cond-cases Named (eqb (r .kind) BLTU) (Bltu _ _ _) (Bequ _ _ _) (λ z e. refl) (λ z e. refl))
 
-  -- every other one names the number of F4
-  pub own-target : (1 ≤ r .kind → r .kind < 10 → ⊥) → targets (instructionFrom r) ≡ r .fourth ∷ []
-  own-target out =
-      ap targets (arithmetic-row (λ x. out (omega arith) (omega arith)) (λ x. out (omega arith) (omega arith)) (λ x. out (omega arith) (omega arith))
-      ∙ access-row (λ x. out (omega arith) (omega arith)) (λ x. out (omega arith) (omega arith)) (λ x. out (omega arith) (omega arith)) (λ x. out (omega arith) (omega arith))
-      ∙ branch-row (λ x. out (omega arith) (omega arith)) (λ x. out (omega arith) (omega arith)))
-      ∙ branch-target
+  named-access : Named (accessFrom r)
+  named-access =
+      cond-cases Named (eqb (r .kind) LOAD) (Load _ _ _ _ _ _) _ (λ z e. absurd (false≢true e))
+      (λ z. cond-cases Named (eqb (r .kind) STOR) (Stor _ _ _ _ _) (branchFrom r) (λ z e. absurd (false≢true e)) (λ z. named-branch))
+
+  named-arithmetic : Named (arithmeticFrom r)
+  named-arithmetic =
+      cond-cases Named (eqb (r .kind) ADDW) (Addw _ _ _) _ (λ z e. absurd (false≢true e))
+      (λ z. cond-cases Named (eqb (r .kind) SUBW) (Subw _ _ _) _ (λ z e. absurd (false≢true e))
+      (λ z. cond-cases Named (eqb (r .kind) MULW) (Mulw _ _ _) _ (λ z e. absurd (false≢true e))
+      (λ z. cond-cases Named (eqb (r .kind) DIVF) (Divf _ _ _) (accessFrom r) (λ z e. absurd (false≢true e)) (λ z. named-access))))
+
+  pub own-target : hasTarget (instructionFrom r) ≡ true → targets (instructionFrom r) ≡ r .fourth ∷ []
+  unfolding instructionFrom
+  own-target =
+      cond-cases Named (eqb (r .kind) STOP) Stop _ (λ z e. absurd (false≢true e))
+      (λ z. cond-cases Named (eqb (r .kind) SETC) (Setc _ _) _ (λ z e. absurd (false≢true e))
+      (λ z. cond-cases Named (eqb (r .kind) COPY) (Copy _ _) (arithmeticFrom r) (λ z e. absurd (false≢true e)) (λ z. named-arithmetic)))
+
+  branch-has : hasTarget (branchFrom r) ≡ true
+  branch-has =
+      cond-cases (λ (i : Instruction). hasTarget i ≡ true) (eqb (r .kind) JUMP) (Jump _) _ (λ z. refl)
+      (λ z. cond-cases (λ (i : Instruction). hasTarget i ≡ true) (eqb (r .kind) BLTU) (Bltu _ _ _) (Bequ _ _ _) (λ z. refl) (λ z. refl))
+
+  -- the kinds from JUMP on, which are told by being none of the others
+  pub has-target : (r .kind ≡ STOP → ⊥) → (r .kind ≡ SETC → ⊥) → (r .kind ≡ COPY → ⊥) → (r .kind ≡ ADDW → ⊥) → (r .kind ≡ SUBW → ⊥) → (r .kind ≡ MULW → ⊥) → (r .kind ≡ DIVF → ⊥) → (r .kind ≡ LOAD → ⊥) → (r .kind ≡ STOR → ⊥)
+      → hasTarget (instructionFrom r) ≡ true
+  has-target a b c d e f g h i = ap hasTarget (arithmetic-row a b c ∙ access-row d e f g ∙ branch-row h i) ∙ branch-has
+
+  pub arithmetic-kind : (k : ℕ) (x : Instruction) → r .kind ≡ k → (k ≡ STOP → ⊥) → (k ≡ SETC → ⊥) → (k ≡ COPY → ⊥) → arithmeticFrom r ≡ x → instructionFrom r ≡ x
+  arithmetic-kind k x e a b c f = arithmetic-row (λ z. a (sym e ∙ z)) (λ z. b (sym e ∙ z)) (λ z. c (sym e ∙ z)) ∙ f
+
+  pub access-kind : (k : ℕ) (x : Instruction) → r .kind ≡ k → (k ≡ STOP → ⊥) → (k ≡ SETC → ⊥) → (k ≡ COPY → ⊥) → (k ≡ ADDW → ⊥) → (k ≡ SUBW → ⊥) → (k ≡ MULW → ⊥) → (k ≡ DIVF → ⊥) → accessFrom r ≡ x → instructionFrom r ≡ x
+  access-kind k x e a b c d u f g h = arithmetic-kind k x e a b c (access-row (λ z. d (sym e ∙ z)) (λ z. u (sym e ∙ z)) (λ z. f (sym e ∙ z)) (λ z. g (sym e ∙ z)) ∙ h)
+
+-- a list that has no element
+pub none-named : (l : List ℕ) → not (isEmpty l) ≡ false → l ≡ []
+none-named [] e = refl
+none-named (x ∷ l) e = absurd (false≢true (sym e))

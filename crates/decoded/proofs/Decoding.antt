@@ -5,6 +5,7 @@ use mathlib.Core.List.{List}
 use Prim.Native.Nat.{ℕ, _%_, _≤_, _<_}
 use native.Mathlib.Omega.{arith}
 use lib.Dec.{eqb}
+use Rattle.model.specs.Limits as Limits
 use Rattle.model.specs.declared.text.Field.{Field}
 use Rattle.model.specs.declared.text.Field.the-variants.{Blank, Number, Negative, Misshapen}
 use Rattle.model.specs.declared.text.Word.{Word}
@@ -24,13 +25,14 @@ use Rattle.model.specs.Text.{valueIn}
 use Rattle.model.specs.Words.{fieldsOf, shaped}
 use Rattle.model.specs.Lines as Lines
 use Rattle.model.specs.Lines.{fieldAt, F1, F2, F3, F4, F5, F6, kindAt, inShape, inLimits, operandFrom, variableOrBlank, plusIn}
-use Rattle.model.proofs.Limits.{OperandLimited, line-limited}
+use Rattle.model.specs.Limited.{OperandLimited}
+use Rattle.model.proofs.Limited.{line-limited}
 use Rattle.model.proofs.Tests.{every-below}
 use Rattle.decoded.specs.declared.rows.Row.{Row}
 use Rattle.decoded.specs.Encoded.{rowOf, refusedRow}
 use Rattle.decoded.specs.Decoded.{operandIn, instructionFrom, stripeFrom, lineFrom}
 
-word-same : (n : ℕ) → n ≤ MAX → n % 4294967296 ≡ n
+word-same : (n : ℕ) → n ≤ MAX → n % Limits.modulus ≡ n
 word-same n h = omega arith
 
 byte-same : (n : ℕ) → n ≤ 255 → n % 256 ≡ n
@@ -54,7 +56,7 @@ plain-variable c Misshapen e = absurd (false≢true e)
 operand-same : (choice n : ℕ) → OperandLimited (operandFrom choice n) → operandIn choice n ≡ operandFrom choice n
 operand-same choice n h = go (eqb choice 0) h
   where
-    go : (b : Bool) → OperandLimited (cond b (variable n) (number n)) → cond b (variable n) (number (n % 4294967296)) ≡ cond b (variable n) (number n)
+    go : (b : Bool) → OperandLimited (cond b (variable n) (number n)) → cond b (variable n) (number (n % Limits.modulus)) ≡ cond b (variable n) (number n)
     go true h = refl
     go false h = ap number (word-same n h)
 
@@ -75,7 +77,7 @@ module _ (fs : List Field) where
   pub line-same : (w : Word) → inShape w fs ≡ true → inLimits w fs ≡ true → lineFrom (rowOf w fs) ≡ Lines.lineFrom w fs
   unfolding lineFrom instructionFrom fieldsOf
   line-same STOP s l = refl
-  line-same SETC s l = ap (λ (n : ℕ). instructionLine (Setc (F1 fs) n)) (ap (λ (n : ℕ). n % 4294967296) (sixth-is SETC s aNumber refl) ∙ word-same (F6 fs) (line-limited fs SETC l .1))
+  line-same SETC s l = ap (λ (n : ℕ). instructionLine (Setc (F1 fs) n)) (ap (λ (n : ℕ). n % Limits.modulus) (sixth-is SETC s aNumber refl) ∙ word-same (F6 fs) (line-limited fs SETC l .1))
   line-same COPY s l = refl
   line-same ADDW s l = ap (λ (o : _). instructionLine (Addw (F1 fs) (F2 fs) o)) (operand-is ADDW s refl (line-limited fs ADDW l .operand))
   line-same SUBW s l = ap (λ (o : _). instructionLine (Subw (F1 fs) (F2 fs) o)) (operand-is SUBW s refl (line-limited fs SUBW l .operand))

@@ -1,3 +1,4 @@
 pub mod Written
 pub mod Decoding
 pub mod ByKind
+pub mod Claims

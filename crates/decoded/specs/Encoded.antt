@@ -7,24 +7,25 @@ use Rattle.model.specs.declared.text.Word.the-variants.{Stop, Setc, Copy, Addw,
 use Rattle.model.specs.Lines.{fieldAt, F1, F2, F3, F5, variableOrBlank, plusIn, minusIn}
 use Rattle.decoded.specs.declared.rows.Row.{Row}
 use Rattle.decoded.specs.Rows.{numbers}
+use Rattle.decoded.specs.Kinds.{REFUSED, STOP, SETC, COPY, ADDW, SUBW, MULW, DIVF, LOAD, STOR, JUMP, BLTU, BEQU, LEAS, MOST, STRP}
 
 -- the kind of row that a word has
 abbrev pub kindOf : Word → ℕ
-kindOf Stop = 1
-kindOf Setc = 2
-kindOf Copy = 3
-kindOf Addw = 4
-kindOf Subw = 5
-kindOf Mulw = 6
-kindOf Divf = 7
-kindOf Load = 8
-kindOf Stor = 9
-kindOf Jump = 10
-kindOf Bltu = 11
-kindOf Bequ = 12
-kindOf Leas = 13
-kindOf Most = 14
-kindOf Strp = 15
+kindOf Stop = STOP
+kindOf Setc = SETC
+kindOf Copy = COPY
+kindOf Addw = ADDW
+kindOf Subw = SUBW
+kindOf Mulw = MULW
+kindOf Divf = DIVF
+kindOf Load = LOAD
+kindOf Stor = STOR
+kindOf Jump = JUMP
+kindOf Bltu = BLTU
+kindOf Bequ = BEQU
+kindOf Leas = LEAS
+kindOf Most = MOST
+kindOf Strp = STRP
 
 -- the row of a word whose fields are accepted
 abbrev pub rowOf : Word → List Field → Row
@@ -32,4 +33,4 @@ rowOf w fs = numbers (kindOf w) (F1 fs) (F2 fs) (F3 fs) (variableOrBlank (fieldA
 
 -- the row of a line that is turned back; why is not kept
 abbrev pub refusedRow : Row
-refusedRow = numbers 0 0 0 0 0 0 0 0
+refusedRow = numbers REFUSED 0 0 0 0 0 0 0

@@ -1,3 +1,4 @@
 pub mod Rows
+pub mod Kinds
 pub mod Encoded
 pub mod Decoded

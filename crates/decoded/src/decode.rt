@@ -15,12 +15,15 @@ use crate::kinds::STOR;
 use crate::kinds::STRP;
 use crate::kinds::SUBW;
 use crate::rows::Row;
+use crate::rows::index_at;
+use crate::rows::kind_at;
 use crate::rows::number_at;
 use crate::rows::row_at;
 use model::answers::Refusal;
 use model::claims::Claim;
 use model::claims::Line;
 use model::claims::Stripe;
+use model::limits::MODULUS;
 use model::machine::Instruction;
 use model::machine::Operand;
 use model::machine::Table;
@@ -28,15 +31,17 @@ use model::machine::Width;
 ghost use mathlib.Core.Path.{_≡_};
 ghost use Prim.Native.Nat.{_+_, _*_, _%_, _≤_};
 ghost use lib.ListN.{length};
+ghost use Rattle.model.specs.Limits.{modulus};
+ghost use Rattle.model.specs.Instructions.{hasTarget};
 ghost use Rattle.model.specs.Lines.{widthFrom, tableFrom};
 ghost use Rattle.decoded.specs.Rows.{rowAt};
-ghost use Rattle.decoded.specs.Decoded.{operandIn, operandOf, branchFrom, accessFrom, arithmeticFrom, instructionFrom, stripeFrom, lineFrom};
+ghost use Rattle.decoded.specs.Decoded.{operandIn, operandOf, branchFrom, accessFrom, arithmeticFrom, instructionFrom, stripeFrom, claimFrom, lineFrom};
 
 // The low 32 bits: every number that a register can hold is kept whole.
 pub fn word(n: u64) -> u32
-    ensures { λ r. ⌜ r ≡ n % 4294967296 ⌝ }
+    ensures { λ r. ⌜ r ≡ n % modulus ⌝ }
 {
-    (n % 4294967296) as u32
+    (n % MODULUS) as u32
 }
 
 // The low 8 bits.
@@ -160,7 +165,7 @@ fn arithmetic_from(r: Row) -> Instruction
 }
 
 // The instruction of a row.
-fn instruction_from(r: Row) -> Instruction
+pub fn instruction_from(r: Row) -> Instruction
     ensures { λ x. ⌜ x ≡ instructionFrom r ⌝ }
 {
     if r.kind == STOP {
@@ -220,18 +225,53 @@ pub fn line_from(r: Row) -> Line
     Line::Instruction(instruction_from(r))
 }
 
-// The line that the k-th row holds.
-pub fn line_at(rows: &[u64], k: usize) -> Line
+// The claim that the k-th row holds, where it holds one. Only the numbers of its kind are read.
+pub fn claim_at(rows: &[u64], k: usize) -> Claim
     requires { ⌜ k * 8 + 8 ≤ length (now rows) ⌝ }
-    ensures { λ r. ⌜ r ≡ lineFrom (rowAt (now (rows .entry)) k) ⌝ }
+    ensures { λ r. ⌜ r ≡ claimFrom (rowAt (now (rows .entry)) k) ⌝ }
 {
-    line_from(row_at(rows, k))
+    let kind = kind_at(rows, k);
+    if kind == STRP {
+        return Claim::Strp(stripe_from(row_at(rows, k)));
+    }
+    let v = index_at(rows, k, 1);
+    let bound = number_at(rows, k, 6);
+    if kind == LEAS {
+        return Claim::Leas { v, least: bound };
+    }
+    Claim::Most { v, most: bound }
 }
 
-// The instruction that the k-th row holds.
-pub fn instruction_at(rows: &[u64], k: usize) -> Instruction
-    requires { ⌜ k * 8 + 8 ≤ length (now rows) ⌝ }
-    ensures { λ r. ⌜ r ≡ instructionFrom (rowAt (now (rows .entry)) k) ⌝ }
+// Whether the instruction of a row names a target: every kind but these does, in F4.
+pub fn has_target(r: Row) -> bool
+    ensures { λ b. ⌜ b ≡ hasTarget (instructionFrom r) ⌝ }
 {
-    instruction_from(row_at(rows, k))
+    if r.kind == STOP {
+        return false;
+    }
+    if r.kind == SETC {
+        return false;
+    }
+    if r.kind == COPY {
+        return false;
+    }
+    if r.kind == ADDW {
+        return false;
+    }
+    if r.kind == SUBW {
+        return false;
+    }
+    if r.kind == MULW {
+        return false;
+    }
+    if r.kind == DIVF {
+        return false;
+    }
+    if r.kind == LOAD {
+        return false;
+    }
+    if r.kind == STOR {
+        return false;
+    }
+    true
 }

@@ -16,15 +16,13 @@ use crate::kinds::STOR;
 use crate::kinds::STRP;
 use crate::kinds::SUBW;
 use crate::rows::Row;
-use lines::fields::value;
+use columns::field::value;
+use model::limits::BLANK_VARIABLE;
 use model::text::Field;
 use model::text::Word;
 ghost use mathlib.Core.Path.{_≡_};
 ghost use Rattle.model.specs.Lines.{variableOrBlank, plusIn, minusIn};
 ghost use Rattle.decoded.specs.Encoded.{kindOf, rowOf, refusedRow};
-
-// Stands for a blank z: one past the last variable.
-const BLANK_VARIABLE: u64 = 18;
 
 // The kind of row that a word has.
 fn kind_of(w: Word) -> u64
@@ -54,10 +52,10 @@ fn variable_or_blank(f: Field) -> u64
     ensures { λ r. ⌜ r ≡ variableOrBlank f ⌝ }
 {
     match f {
-        Field::Blank => BLANK_VARIABLE,
+        Field::Blank => BLANK_VARIABLE as u64,
         Field::Number(v) => v,
         Field::Negative(v) => v,
-        Field::Misshapen => BLANK_VARIABLE,
+        Field::Misshapen => BLANK_VARIABLE as u64,
     }
 }
 

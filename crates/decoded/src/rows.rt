@@ -4,6 +4,9 @@ ghost use Prim.Native.Nat.{_+_, _*_, _≤_, _<_};
 ghost use lib.ListN.{length, getD};
 ghost use Rattle.decoded.specs.Rows.{rowAt, withRow};
 
+// The numbers of a row.
+pub const ROW_NUMBERS: usize = 8;
+
 // A kind and the numbers of F1 to F6; F6 takes two, what a bound adds and what it takes away.
 pub struct Row {
     pub kind: u64,

@@ -11,10 +11,9 @@ use Rattle.model.specs.declared.answers.Refusal.the-variants.{FieldShape, Numbe
 use Rattle.model.specs.declared.answers.Judgement.{Judgement}
 use Rattle.model.specs.declared.answers.Judgement.the-variants.{Accepted, Refused}
 use Rattle.model.specs.Lists.{everyBelow}
-use Rattle.model.specs.Text.{valueIn}
 use Rattle.model.specs.Words.{shaped, allowed}
 use Rattle.model.specs.Lines.{fieldAt, kindAt, F1, F5, inShape, inLimits, judged}
-use Rattle.lines.specs.Faults.{fault, greatest, faultIn}
+use Rattle.lines.specs.Faults.{fault, faultOf, greatest, faultIn}
 
 -- the greater of two faults
 both : (a b c d : Bool) → max (fault a b) (fault c d) ≡ fault (a && c) (b && d)
@@ -50,7 +49,19 @@ six p q =
 
 fault-in : (w : Word) (fs : List Field) → faultIn w fs ≡ fault (inShape w fs) (inLimits w fs)
 unfolding faultIn inShape inLimits
-fault-in w fs = six (λ (j : ℕ). shaped (kindAt w j) (fieldAt fs j)) (λ (j : ℕ). allowed (kindAt w j) (F1 fs) (F5 fs) (valueIn (fieldAt fs j)))
+fault-in w fs = six (λ (j : ℕ). shaped (kindAt w j) (fieldAt fs j)) (λ (j : ℕ). allowed (kindAt w j) (F1 fs) (F5 fs) (fieldAt fs j))
+
+-- the faults of the fields, each for its place in a row
+pub row-fault : (u w : Word) (fs : List Field) → w ≡ u → {a b c d e f : ℕ}
+    → a ≡ faultOf (kindAt u 0) (F1 fs) (F5 fs) (fieldAt fs 0)
+    → b ≡ faultOf (kindAt u 1) (F1 fs) (F5 fs) (fieldAt fs 1)
+    → c ≡ faultOf (kindAt u 2) (F1 fs) (F5 fs) (fieldAt fs 2)
+    → d ≡ faultOf (kindAt u 3) (F1 fs) (F5 fs) (fieldAt fs 3)
+    → e ≡ faultOf (kindAt u 4) (F1 fs) (F5 fs) (fieldAt fs 4)
+    → f ≡ faultOf (kindAt u 5) (F1 fs) (F5 fs) (fieldAt fs 5)
+    → greatest a b c d e f ≡ faultIn w fs
+unfolding faultIn
+row-fault u w fs same p q r s t v = rw (same, p, q, r, s, t, v)
 
 module _ (place : ℕ) (w : Word) (fs : List Field) where
   abbrev judgement : Bool → Bool → Judgement

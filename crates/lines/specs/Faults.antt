@@ -5,9 +5,8 @@ use mathlib.Core.List.{List}
 use Rattle.model.specs.declared.text.Field.{Field}
 use Rattle.model.specs.declared.text.Kind.{Kind}
 use Rattle.model.specs.declared.text.Word.{Word}
-use Rattle.model.specs.Text.{valueIn}
 use Rattle.model.specs.Words.{fieldsOf, shaped, allowed}
-use Rattle.model.specs.Lines.{fieldAt, kindAt}
+use Rattle.model.specs.Lines.{fieldAt, kindAt, F1, F5}
 
 -- the fault of a field that is in shape or not, with a number within its limits or not
 unfoldable pub fault : Bool → Bool → ℕ
@@ -16,21 +15,16 @@ fault s a = cond s (cond a 0 1) 2
 -- the fault of a field of a kind; f1 and f5 are the numbers of the line's F1 and F5
 unfoldable pub faultOf : Kind → ℕ → ℕ → Field → ℕ
 unfolding shaped allowed
-faultOf k f1 f5 f = fault (shaped k f) (allowed k f1 f5 (valueIn f))
+faultOf k f1 f5 f = fault (shaped k f) (allowed k f1 f5 f)
 
 -- the greatest of six numbers
 abbrev pub greatest : ℕ → ℕ → ℕ → ℕ → ℕ → ℕ → ℕ
 greatest a b c d e f = max (max (max (max (max a b) c) d) e) f
 
--- the greatest fault of six fields after a word
-unfoldable pub faultAmong : Word → Field → Field → Field → Field → Field → Field → ℕ
-unfolding fieldsOf faultOf
-faultAmong w f1 f2 f3 f4 f5 f6 = greatest (at 0 f1) (at 1 f2) (at 2 f3) (at 3 f4) (at 4 f5) (at 5 f6)
-  where
-    at : ℕ → Field → ℕ
-    at j f = faultOf (kindAt w j) (valueIn f1) (valueIn f5) f
-
--- as above, of a list of fields
+-- the greatest fault of a word's six fields
 unfoldable pub faultIn : Word → List Field → ℕ
-unfolding faultAmong
-faultIn w fs = faultAmong w (fieldAt fs 0) (fieldAt fs 1) (fieldAt fs 2) (fieldAt fs 3) (fieldAt fs 4) (fieldAt fs 5)
+unfolding fieldsOf faultOf
+faultIn w fs = greatest (at 0) (at 1) (at 2) (at 3) (at 4) (at 5)
+  where
+    at : ℕ → ℕ
+    at j = faultOf (kindAt w j) (F1 fs) (F5 fs) (fieldAt fs j)

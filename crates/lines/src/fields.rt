@@ -1,6 +1,6 @@
-// The numbers of fields, and the judgement of a word with its six fields.
-use crate::kinds::OUT_OF_LIMITS;
-use crate::rows::fault_in;
+// The judgement of a word with its six fields.
+use crate::faults::OUT_OF_LIMITS;
+use crate::table::fault_in;
 use model::answers::Judgement;
 use model::answers::Refusal;
 use model::text::Field;
@@ -8,20 +8,7 @@ use model::text::FoundWord;
 use model::text::Word;
 ghost use mathlib.Core.Path.{_≡_};
 ghost use Rattle.model.specs.declared.text.FoundWord.the-variants.{Known};
-ghost use Rattle.model.specs.Text.{valueIn};
 ghost use Rattle.model.specs.Lines.{judged};
-
-// The number of a field without its minus; 0 where there is none.
-pub fn value(f: Field) -> u64
-    ensures { λ r. ⌜ r ≡ valueIn f ⌝ }
-{
-    match f {
-        Field::Blank => 0,
-        Field::Number(v) => v,
-        Field::Negative(v) => v,
-        Field::Misshapen => 0,
-    }
-}
 
 // Refusals 3, 4 and 5 of a word with its fields, in this order.
 pub fn judge(place: usize, w: FoundWord, fs: [Field; 6]) -> Judgement

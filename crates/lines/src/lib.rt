@@ -1,9 +1,6 @@
-// The lines of a listing: 40 bytes read as a word and six fields, and judged; and lines written.
-mod columns;
+// The lines of a listing: 40 bytes read as a word and six fields, and judged.
+mod faults;
 pub mod fields;
-mod fours;
-mod kinds;
 pub mod line;
-mod rows;
+mod table;
 pub mod words;
-pub mod write;

@@ -1,6 +1,6 @@
 // A line of 40 bytes: its spelling and its six fields.
-use crate::columns::read_field;
-use crate::columns::width;
+use columns::field::width;
+use columns::reading::read_field;
 use model::text::Field;
 ghost use mathlib.Core.Path.{_≡_};
 ghost use Prim.Native.Nat.{ℕ, _<_};

@@ -1,16 +1,40 @@
-// The word that a line begins with.
-use crate::fours;
+// The words: the four bytes of each, and the word that a line begins with.
+use columns::fours;
 use model::text::FoundWord;
 use model::text::Word;
 ghost use mathlib.Core.Path.{_≡_};
 ghost use lib.ListN.{length, drop};
-ghost use Rattle.model.specs.Words.{begins, words, wordAmong};
+ghost use Rattle.model.specs.Words.{textOf, begins, words, wordAmong};
 
-// The line begins with the four bytes of t.
-fn begins_with(l: &[u8], t: &[u8; 4]) -> bool
-    requires { ⌜ length (now l) ≡ 40 ⌝ }
-    ensures { λ r. ⌜ r ≡ begins (now (l .entry)) (now (t .entry)) ⌝ }
+// The four bytes of a word.
+pub fn text(w: Word) -> [u8; 4]
+    ensures { λ r. ⌜ r ≡ textOf w ⌝ }
 {
+    match w {
+        Word::Stop => *b"STOP",
+        Word::Setc => *b"SETC",
+        Word::Copy => *b"COPY",
+        Word::Addw => *b"ADDW",
+        Word::Subw => *b"SUBW",
+        Word::Mulw => *b"MULW",
+        Word::Divf => *b"DIVF",
+        Word::Load => *b"LOAD",
+        Word::Stor => *b"STOR",
+        Word::Jump => *b"JUMP",
+        Word::Bltu => *b"BLTU",
+        Word::Bequ => *b"BEQU",
+        Word::Leas => *b"LEAS",
+        Word::Most => *b"MOST",
+        Word::Strp => *b"STRP",
+    }
+}
+
+// The line begins with the four bytes of the word.
+fn begins_with(l: &[u8], w: Word) -> bool
+    requires { ⌜ length (now l) ≡ 40 ⌝ }
+    ensures { λ r. ⌜ r ≡ begins (now (l .entry)) (textOf w) ⌝ }
+{
+    let t = text(w);
     fours::same(l[0], l[1], l[2], l[3], t[0], t[1], t[2], t[3])
 }
 
@@ -19,13 +43,13 @@ pub fn find_word(l: &[u8]) -> FoundWord
     requires { ⌜ length (now l) ≡ 40 ⌝ }
     ensures { λ r. ⌜ r ≡ wordAmong words (now (l .entry)) ⌝ }
 {
-    if begins_with(l, b"STOP") {
+    if begins_with(l, Word::Stop) {
         return FoundWord::Known(Word::Stop);
     }
-    if begins_with(l, b"SETC") {
+    if begins_with(l, Word::Setc) {
         return FoundWord::Known(Word::Setc);
     }
-    if begins_with(l, b"COPY") {
+    if begins_with(l, Word::Copy) {
         return FoundWord::Known(Word::Copy);
     }
     find_arithmetic(l)
@@ -36,16 +60,16 @@ fn find_arithmetic(l: &[u8]) -> FoundWord
     requires { ⌜ length (now l) ≡ 40 ⌝ }
     ensures { λ r. ⌜ r ≡ wordAmong (drop 3 words) (now (l .entry)) ⌝ }
 {
-    if begins_with(l, b"ADDW") {
+    if begins_with(l, Word::Addw) {
         return FoundWord::Known(Word::Addw);
     }
-    if begins_with(l, b"SUBW") {
+    if begins_with(l, Word::Subw) {
         return FoundWord::Known(Word::Subw);
     }
-    if begins_with(l, b"MULW") {
+    if begins_with(l, Word::Mulw) {
         return FoundWord::Known(Word::Mulw);
     }
-    if begins_with(l, b"DIVF") {
+    if begins_with(l, Word::Divf) {
         return FoundWord::Known(Word::Divf);
     }
     find_access(l)
@@ -56,10 +80,10 @@ fn find_access(l: &[u8]) -> FoundWord
     requires { ⌜ length (now l) ≡ 40 ⌝ }
     ensures { λ r. ⌜ r ≡ wordAmong (drop 7 words) (now (l .entry)) ⌝ }
 {
-    if begins_with(l, b"LOAD") {
+    if begins_with(l, Word::Load) {
         return FoundWord::Known(Word::Load);
     }
-    if begins_with(l, b"STOR") {
+    if begins_with(l, Word::Stor) {
         return FoundWord::Known(Word::Stor);
     }
     find_jump(l)
@@ -70,13 +94,13 @@ fn find_jump(l: &[u8]) -> FoundWord
     requires { ⌜ length (now l) ≡ 40 ⌝ }
     ensures { λ r. ⌜ r ≡ wordAmong (drop 9 words) (now (l .entry)) ⌝ }
 {
-    if begins_with(l, b"JUMP") {
+    if begins_with(l, Word::Jump) {
         return FoundWord::Known(Word::Jump);
     }
-    if begins_with(l, b"BLTU") {
+    if begins_with(l, Word::Bltu) {
         return FoundWord::Known(Word::Bltu);
     }
-    if begins_with(l, b"BEQU") {
+    if begins_with(l, Word::Bequ) {
         return FoundWord::Known(Word::Bequ);
     }
     find_claim(l)
@@ -87,13 +111,13 @@ fn find_claim(l: &[u8]) -> FoundWord
     requires { ⌜ length (now l) ≡ 40 ⌝ }
     ensures { λ r. ⌜ r ≡ wordAmong (drop 12 words) (now (l .entry)) ⌝ }
 {
-    if begins_with(l, b"LEAS") {
+    if begins_with(l, Word::Leas) {
         return FoundWord::Known(Word::Leas);
     }
-    if begins_with(l, b"MOST") {
+    if begins_with(l, Word::Most) {
         return FoundWord::Known(Word::Most);
     }
-    if begins_with(l, b"STRP") {
+    if begins_with(l, Word::Strp) {
         return FoundWord::Known(Word::Strp);
     }
     FoundWord::Unknown

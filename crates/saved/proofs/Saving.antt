@@ -5,6 +5,7 @@ use Prim.Native.Nat.{ℕ, _+_}
 use native.Mathlib.Numerals.{add-one}
 use lib.ListN.{length, getD, replicate}
 use borrow.Author.Tests.{eq-eqb, ne-eqb}
+use Rattle.model.specs.Limits as Limits
 use Rattle.model.specs.declared.machine.State.{State}
 use Rattle.model.specs.Text.{space}
 use Rattle.model.specs.Lines.{readLine}
@@ -21,7 +22,7 @@ module _ (t : List ℕ) where
   saved-short h = rw (ne-eqb _ _ h)
 
   -- any other text is told by its lines
-  pub saved-whole : length t ≡ 680 → savedIn t ≡ savedFrom (targetOn (readLine 1 (lineAt t 0))) (registersTo t 16)
+  pub saved-whole : length t ≡ 680 → savedIn t ≡ savedFrom (targetOn (readLine 1 (lineAt t 0))) (registersTo t Limits.registers)
   unfolding savedIn
   saved-whole h = rw (eq-eqb _ _ h)
 
@@ -29,10 +30,10 @@ module _ (t : List ℕ) where
     pub saved-nowhere : x ≡ NoPoint → noState ≡ savedIn t
     saved-nowhere e = rw (saved-whole h, ← first, e)
 
-    pub saved-at : (p : ℕ) (r : Reading) → x ≡ Point p → r ≡ registersTo t 16 → savedFrom (Point p) r ≡ savedIn t
+    pub saved-at : (p : ℕ) (r : Reading) → x ≡ Point p → r ≡ registersTo t Limits.registers → savedFrom (Point p) r ≡ savedIn t
     saved-at p r e f = rw (saved-whole h, ← first, e, f)
 
-pub text-is : (s : State) → textOf s ≡ registersSet (pointSet (replicate 680 space) (s .point)) (s .registers) 16
+pub text-is : (s : State) → textOf s ≡ registersSet (pointSet (replicate 680 space) (s .point)) (s .registers) Limits.registers
 unfolding textOf
 text-is s = refl
 

@@ -1,4 +1,3 @@
 pub mod States
-pub mod Answer
 pub mod Numbers
 pub mod Names

@@ -7,6 +7,7 @@ use lib.ListN.{length, getD, set, take, drop, replicate}
 use lib.Dec.{eqb}
 use Rattle.model.specs.declared.text.Field.{Field}
 use Rattle.model.specs.declared.text.Field.the-variants.{Blank, Number}
+use Rattle.model.specs.declared.text.Word.the-variants.{Setc as SETC, Jump as JUMP}
 use Rattle.model.specs.declared.machine.Instruction.{Instruction}
 use Rattle.model.specs.declared.machine.Instruction.the-variants.{Stop, Setc, Copy, Addw, Subw, Mulw, Divf, Load, Stor, Jump, Bltu, Bequ}
 use Rattle.model.specs.declared.machine.State.{State}
@@ -14,7 +15,7 @@ use Rattle.model.specs.declared.claims.Line.{Line}
 use Rattle.model.specs.declared.claims.Line.the-variants.{Refused as refusedLine, Claim as claimLine, Instruction as instructionLine}
 use Rattle.model.specs.Limits.{lineBytes, registers}
 use Rattle.model.specs.Text.{space}
-use Rattle.model.specs.Words.{bytes}
+use Rattle.model.specs.Words.{textOf as wordText}
 use Rattle.model.specs.Lines.{readLine, lineSet}
 use Rattle.model.specs.Listing.{lineAt}
 use Rattle.saved.specs.declared.states.Target.{Target}
@@ -115,12 +116,12 @@ withLine t k word fs = take (k * lineBytes) t ++ (lineSet (lineAt t k) word fs +
 -- writing: a text with the line of the point
 unfoldable pub pointSet : List ℕ → ℕ → List ℕ
 unfolding withLine
-pointSet t p = withLine t 0 (bytes "JUMP") (pointFields p)
+pointSet t p = withLine t 0 (wordText JUMP) (pointFields p)
 
 -- writing: a text with the line of register v
 unfoldable pub registerSet : List ℕ → ℕ → ℕ → List ℕ
 unfolding withLine
-registerSet t v c = withLine t (v + 1) (bytes "SETC") (registerFields v c)
+registerSet t v c = withLine t (v + 1) (wordText SETC) (registerFields v c)
 
 -- writing: a text with the lines of the first registers
 unfoldable pub registersSet : List ℕ → List ℕ → ℕ → List ℕ

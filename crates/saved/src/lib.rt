@@ -1,5 +1,4 @@
-// What a run leaves to be read: its state as a text, and the line that it prints; the numbers that a user gives, and the name of a new file.
-pub mod answer;
+// What a run is given and leaves as text: its state, the numbers that a user gives, and the name of a new file.
 pub mod names;
 pub mod numbers;
 pub mod states;

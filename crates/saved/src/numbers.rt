@@ -2,6 +2,7 @@
 ghost use mathlib.Core.Path.{_≡_};
 ghost use Prim.Native.Nat.{_≤_};
 ghost use lib.ListN.{length};
+ghost use Rattle.model.specs.Limits.{modulus};
 ghost use Rattle.saved.specs.Numbers.{withDigit, digitsTo, numberIn};
 
 // An argument read as a number.
@@ -12,8 +13,8 @@ pub enum Parsed {
 
 // The number so far, above 32 bits where a byte is no digit or the number is too large.
 fn with_digit(n: u64, b: u8) -> u64
-    requires { ⌜ n ≤ 4294967296 ⌝ }
-    ensures { λ r. ⌜ (r ≡ withDigit n b) × (r ≤ 4294967296) ⌝ }
+    requires { ⌜ n ≤ modulus ⌝ }
+    ensures { λ r. ⌜ (r ≡ withDigit n b) × (r ≤ modulus) ⌝ }
 {
     if b < b'0' {
         return 4_294_967_296;
@@ -30,7 +31,7 @@ fn with_digit(n: u64, b: u8) -> u64
 
 // The number that digits give.
 fn digits(text: &[u8]) -> u64
-    ensures { λ r. ⌜ (r ≡ digitsTo (now (text .entry)) (length (now (text .entry)))) × (r ≤ 4294967296) ⌝ }
+    ensures { λ r. ⌜ (r ≡ digitsTo (now (text .entry)) (length (now (text .entry)))) × (r ≤ modulus) ⌝ }
 {
     let mut n: u64 = 0;
     let mut i = 0;

@@ -1,12 +1,16 @@
 // A state as text: 17 lines like those of a listing, a JUMP to the point and then a SETC for each register, in order.
-use lines::write::set_line;
+use columns::write::set_line;
+use lines::words;
 use model::claims::Line;
+use model::limits::REGISTERS;
 use model::machine::Instruction;
 use model::machine::State;
 use model::text::Field;
+use model::text::Word;
 use reader::read::read_line;
 ghost use mathlib.Core.Path.{_≡_};
 ghost use Prim.Native.Nat.{_+_, _<_};
+ghost use Rattle.model.specs.Limits as Limits;
 ghost use Rattle.model.specs.Lines.{readLine};
 ghost use Rattle.model.specs.Listing.{lineAt};
 ghost use lib.ListN.{length};
@@ -27,7 +31,7 @@ enum Setting {
 // The registers read so far, and whether every line so far is as it should be.
 struct Reading {
     whole: bool,
-    registers: [u32; 16],
+    registers: [u32; REGISTERS],
 }
 
 // A text read: whether it is a state, and the state.
@@ -131,7 +135,7 @@ fn setting_on(l: Line, v: usize) -> Setting
 
 // One register more.
 fn with_setting(r: Reading, v: usize, s: Setting) -> Reading
-    requires { ⌜ v < 16 ⌝ }
+    requires { ⌜ v < Limits.registers ⌝ }
     ensures { λ x. ⌜ x ≡ withSetting r v s ⌝ }
 {
     let mut registers = r.registers;
@@ -152,7 +156,7 @@ fn with_setting(r: Reading, v: usize, s: Setting) -> Reading
 
 // Register v, on line v + 2.
 fn with_register(text: &[u8], r: Reading, v: usize) -> Reading
-    requires { ⌜ (length (now text) ≡ 680) × (v < 16) ⌝ }
+    requires { ⌜ (length (now text) ≡ 680) × (v < Limits.registers) ⌝ }
     ensures { λ x. ⌜ x ≡ withSetting r v (settingOn (readLine (v + 2) (lineAt (now (text .entry)) (v + 1))) v) ⌝ }
 {
     let k = v + 1;
@@ -165,14 +169,14 @@ fn with_register(text: &[u8], r: Reading, v: usize) -> Reading
 // The registers, from lines 2 to 17.
 fn read_registers(text: &[u8]) -> Reading
     requires { ⌜ length (now text) ≡ 680 ⌝ }
-    ensures { λ x. ⌜ x ≡ registersTo (now (text .entry)) 16 ⌝ }
+    ensures { λ x. ⌜ x ≡ registersTo (now (text .entry)) Limits.registers ⌝ }
 {
     let mut r = Reading {
         whole: true,
-        registers: [0; 16],
+        registers: [0; REGISTERS],
     };
     let mut v = 0;
-    while v < 16 {
+    while v < REGISTERS {
         r = with_register(text, r, v);
         v += 1;
     }
@@ -185,7 +189,7 @@ pub fn read_state(text: &[u8]) -> Saved
 {
     let none = State {
         point: 0,
-        registers: [0; 16],
+        registers: [0; REGISTERS],
     };
     if text.len() != 680 {
         return Saved {
@@ -236,23 +240,23 @@ fn register_fields(v: usize, c: u32) -> [Field; 6]
 
 // Writes the line of register v.
 fn set_register(text: &mut [u8], v: usize, c: u32)
-    requires { ⌜ (length (now text) ≡ 680) × (v < 16) ⌝ }
+    requires { ⌜ (length (now text) ≡ 680) × (v < Limits.registers) ⌝ }
     ensures { λ _. ⌜ now (text .exit) ≡ registerSet (now (text .entry)) v c ⌝ }
 {
     let k = v + 1;
     let a = k * 40;
     let e = a + 40;
-    let t = *b"SETC";
+    let t = words::text(Word::Setc);
     set_line(&mut text[a..e], &t, register_fields(v, c));
 }
 
 // Writes the lines of all registers.
-fn set_registers(text: &mut [u8], registers: [u32; 16])
+fn set_registers(text: &mut [u8], registers: [u32; REGISTERS])
     requires { ⌜ length (now text) ≡ 680 ⌝ }
-    ensures { λ _. ⌜ now (text .exit) ≡ registersSet (now (text .entry)) registers 16 ⌝ }
+    ensures { λ _. ⌜ now (text .exit) ≡ registersSet (now (text .entry)) registers Limits.registers ⌝ }
 {
     let mut v = 0;
-    while v < 16 {
+    while v < REGISTERS {
         set_register(text, v, registers[v]);
         v += 1;
     }
@@ -263,7 +267,7 @@ fn set_point(text: &mut [u8], point: usize)
     requires { ⌜ length (now text) ≡ 680 ⌝ }
     ensures { λ _. ⌜ now (text .exit) ≡ pointSet (now (text .entry)) point ⌝ }
 {
-    let t = *b"JUMP";
+    let t = words::text(Word::Jump);
     set_line(&mut text[0..40], &t, point_fields(point));
 }
 

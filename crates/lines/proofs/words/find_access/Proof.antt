@@ -16,14 +16,14 @@ begins-with-requires-2 c κs = search needs
 
 returns-2 : tie.Need-returns-2
 unfolding wordAmong
-returns-2 c = simp (c .if2 .taken, ← c .before .begins-with2 .ensures, c .before .before .before .if1 .left, ← c .before .before .before .before .begins-with .ensures)
+returns-2 c = simp (c .if2 .taken, ← c .before .begins-with2 .ensures, c .before .before .if1 .left, ← c .before .before .before .begins-with .ensures)
 
 find-jump-requires : tie.Need-find-jump-requires
 find-jump-requires c κs = search needs
 
 returns-3 : tie.Need-returns-3
 unfolding wordAmong
-returns-3 c = simp (← c .find-jump .ensures, c .before .if2 .left, ← c .before .before .begins-with2 .ensures, c .before .before .before .before .if1 .left, ← c .before .before .before .before .before .begins-with .ensures)
+returns-3 c = simp (← c .find-jump .ensures, c .before .if2 .left, ← c .before .before .begins-with2 .ensures, c .before .before .before .if1 .left, ← c .before .before .before .before .begins-with .ensures)
 
 pub find-access-spec : {M : Type 1} → statement M
 find-access-spec =

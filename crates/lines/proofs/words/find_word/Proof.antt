@@ -16,21 +16,21 @@ begins-with-requires-2 c κs = search needs
 
 returns-2 : tie.Need-returns-2
 unfolding wordAmong
-returns-2 c = simp (c .if2 .taken, ← c .before .begins-with2 .ensures, c .before .before .before .if1 .left, ← c .before .before .before .before .begins-with .ensures)
+returns-2 c = simp (c .if2 .taken, ← c .before .begins-with2 .ensures, c .before .before .if1 .left, ← c .before .before .before .begins-with .ensures)
 
 begins-with-requires-3 : tie.Need-begins-with-requires-3
 begins-with-requires-3 c κs = search needs
 
 returns-3 : tie.Need-returns-3
 unfolding wordAmong
-returns-3 c = simp (c .if3 .taken, ← c .before .begins-with3 .ensures, c .before .before .before .if2 .left, ← c .before .before .before .before .begins-with2 .ensures, c .before .before .before .before .before .before .if1 .left, ← c .before .before .before .before .before .before .before .begins-with .ensures)
+returns-3 c = simp (c .if3 .taken, ← c .before .begins-with3 .ensures, c .before .before .if2 .left, ← c .before .before .before .begins-with2 .ensures, c .before .before .before .before .if1 .left, ← c .before .before .before .before .before .begins-with .ensures)
 
 find-arithmetic-requires : tie.Need-find-arithmetic-requires
 find-arithmetic-requires c κs = search needs
 
 returns-4 : tie.Need-returns-4
 unfolding wordAmong
-returns-4 c = simp (← c .find-arithmetic .ensures, c .before .if3 .left, ← c .before .before .begins-with3 .ensures, c .before .before .before .before .if2 .left, ← c .before .before .before .before .before .begins-with2 .ensures, c .before .before .before .before .before .before .before .if1 .left, ← c .before .before .before .before .before .before .before .before .begins-with .ensures)
+returns-4 c = simp (← c .find-arithmetic .ensures, c .before .if3 .left, ← c .before .before .begins-with3 .ensures, c .before .before .before .if2 .left, ← c .before .before .before .before .begins-with2 .ensures, c .before .before .before .before .before .if1 .left, ← c .before .before .before .before .before .before .begins-with .ensures)
 
 pub find-word-spec : {M : Type 1} → statement M
 find-word-spec =

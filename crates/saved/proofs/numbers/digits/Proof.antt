@@ -3,13 +3,14 @@ use native.Mathlib.Omega.{arith}
 use mathlib.Core.Path.{_≡_, refl, ap, _∙_}
 use lib.ListN.{length}
 use borrow.Author.Needs.{needs}
+use Rattle.model.specs.Limits as Limits
 use Rattle.saved.specs.Numbers.{digitsTo}
 use Rattle.saved.proofs.Numbering.{digits-next}
 use Rattle.saved.proofs.numbers.digits.Statement.{statement}
 use Rattle.saved.proofs.numbers.digits.Tie as tie
 
 abbrev Inv-loop : tie.InvT-loop
-Inv-loop text n₀ i₀ n i = (i ≤ length text) × (n ≡ digitsTo text i) × (n ≤ 4294967296)
+Inv-loop text n₀ i₀ n i = (i ≤ length text) × (n ≡ digitsTo text i) × (n ≤ Limits.modulus)
 
 abbrev μ-loop : tie.MeasureT-loop
 μ-loop text n₀ i₀ n i = length text - i

@@ -3,6 +3,9 @@ use borrow.Author.Needs.{needs}
 use Rattle.saved.proofs.states.set_point.Statement.{statement}
 use Rattle.saved.proofs.states.set_point.Tie as tie
 
+text-requires : tie.Need-text-requires
+text-requires c κs = search needs
+
 sub-set-line : tie.Need-sub-set-line
 sub-set-line c = search needs
 
@@ -22,12 +25,13 @@ same-length : tie.Need-same-length
 same-length c = search needs
 
 returns : tie.Need-returns
-returns c = rw (point-line, c .before .before .set-line .ensures, c .before .before .before .point-fields .ensures)
+returns c = rw (point-line, c .before .before .set-line .ensures, c .before .before .before .point-fields .ensures, c .before .before .before .before .before .before .text .ensures)
 
 pub set-point-spec : {M : Type 1} → statement M
 set-point-spec =
     tie.close
     (tie.spec
+    text-requires
     sub-set-line
     part-set-line-start
     part-set-line-end

@@ -12,6 +12,9 @@ mul-a c = search needs
 add-e : tie.Need-add-e
 add-e c = search needs
 
+text-requires : tie.Need-text-requires
+text-requires c κs = search needs
+
 sub-set-line : tie.Need-sub-set-line
 sub-set-line c = search needs
 
@@ -31,7 +34,7 @@ same-length : tie.Need-same-length
 same-length c = search needs
 
 returns : tie.Need-returns
-returns c = rw (register-line, c .before .before .set-line .ensures, c .before .before .before .register-fields .ensures, cut)
+returns c = rw (register-line, c .before .before .set-line .ensures, c .before .before .before .register-fields .ensures, c .before .before .before .before .before .before .text .ensures, cut)
 
 pub set-register-spec : {M : Type 1} → statement M
 set-register-spec =
@@ -40,6 +43,7 @@ set-register-spec =
     add-k
     mul-a
     add-e
+    text-requires
     sub-set-line
     part-set-line-start
     part-set-line-end

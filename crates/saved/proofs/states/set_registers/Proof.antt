@@ -4,15 +4,16 @@ use native.Mathlib.Omega.{arith}
 use mathlib.Core.Path.{_≡_, refl, ap, _∙_}
 use lib.ListN.{length}
 use borrow.Author.Needs.{needs}
+use Rattle.model.specs.Limits as Limits
 use Rattle.saved.specs.States.{registersSet}
 use Rattle.saved.proofs.states.set_registers.Statement.{statement}
 use Rattle.saved.proofs.states.set_registers.Tie as tie
 
 abbrev Inv-loop : tie.InvT-loop
-Inv-loop text₀ registers v₀ text v = (v ≤ 16) × (length text ≡ length text₀) × (text ≡ registersSet text₀ registers v)
+Inv-loop text₀ registers v₀ text v = (v ≤ Limits.registers) × (length text ≡ length text₀) × (text ≡ registersSet text₀ registers v)
 
 abbrev μ-loop : tie.MeasureT-loop
-μ-loop text₀ registers v₀ text v = 16 - v
+μ-loop text₀ registers v₀ text v = Limits.registers - v
 
 loop-holds : tie.Need-loop-holds Inv-loop μ-loop
 unfolding registersSet
@@ -40,7 +41,7 @@ same-length : tie.Need-same-length Inv-loop μ-loop
 same-length c = omega arith
 
 returns : tie.Need-returns Inv-loop μ-loop
-returns c = let e : c .before .loop .v ≡ 16 = omega arith in c .before .loop .inv .2 ∙ ap (registersSet _ _) e
+returns c = let e : c .before .loop .v ≡ Limits.registers = omega arith in c .before .loop .inv .2 ∙ ap (registersSet _ _) e
 
 pub set-registers-spec : {M : Type 1} → statement M
 set-registers-spec =

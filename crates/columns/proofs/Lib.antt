@@ -1,0 +1,4 @@
+pub mod Digits
+pub mod Joining
+pub mod Setting
+pub mod Shapes

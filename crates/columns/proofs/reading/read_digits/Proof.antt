@@ -1,0 +1,84 @@
+-- The loop's invariant: so far there are digits, and they give the number. Fourteen of them leave room for one more. Assumes nothing.
+use Prim.Native.Nat.{_≤_, _<_, _-_, _^_}
+use native.Mathlib.Omega.{arith}
+use mathlib.Core.Path.{_≡_, sym, _∙_}
+use mathlib.Core.Bool.{cond}
+use borrow.Author.Needs.{needs}
+use Rattle.model.specs.declared.text.Shape.the-variants.{Digits, Signed}
+use Rattle.model.specs.Text.{shapeOf, digitsOf}
+use Rattle.columns.proofs.Digits.{digit-below, digits-fit}
+use Rattle.columns.proofs.Shapes.{digit-more, digits-broken, digits-last, number-more}
+use Rattle.columns.proofs.reading.read_digits.Statement.{statement}
+use Rattle.columns.proofs.reading.read_digits.Tie as tie
+
+abbrev Inv-loop : tie.InvT-loop
+Inv-loop l at i n first negative v₀ j₀ v j = (j ≤ n) × (shapeOf l at j ≡ cond negative Signed Digits) × (v ≡ digitsOf l at j)
+
+abbrev μ-loop : tie.MeasureT-loop
+μ-loop l at i n first negative v₀ j₀ v j = n - j
+
+loop-holds : tie.Need-loop-holds Inv-loop μ-loop
+loop-holds c = (omega arith, c .before .pre .1 .0, c .before .pre .1 .1)
+
+add-b : tie.Need-add-b Inv-loop μ-loop
+add-b c = omega arith
+
+shared-slice-read-b : tie.Need-shared-slice-read-b Inv-loop μ-loop
+shared-slice-read-b c = omega arith
+
+is-digit-requires : tie.Need-is-digit-requires Inv-loop μ-loop
+is-digit-requires c κs = search needs
+
+mul-v : tie.Need-mul-v Inv-loop μ-loop
+mul-v c =
+    let h : c .before .before .before .before .loop .v < 10 ^ 14 = rw (c .before .before .before .before .loop .inv .2) (digits-fit 14 _ _ (c .before .before .before .before .loop .j) (omega arith)) in
+    omega arith
+
+digit-requires : tie.Need-digit-requires Inv-loop μ-loop
+digit-requires c κs = sym (c .before .is-digit .ensures) ∙ c .if1 .taken
+
+add-v : tie.Need-add-v Inv-loop μ-loop
+add-v c =
+    let h : c .before .before .before .before .before .loop .v < 10 ^ 14 = rw (c .before .before .before .before .before .loop .inv .2) (digits-fit 14 _ _ (c .before .before .before .before .before .loop .j) (omega arith)) in
+    let k : c .digit .result ≤ 9 = rw (c .digit .ensures) (digit-below _) in
+    omega arith
+
+add-j : tie.Need-add-j Inv-loop μ-loop
+add-j c = omega arith
+
+loop-less : tie.Need-loop-less Inv-loop μ-loop
+loop-less c = omega arith
+
+loop-again : tie.Need-loop-again Inv-loop μ-loop
+loop-again c =
+    let (p, s, d) = c .before .before .before .before .before .loop .inv in
+    (omega arith, digit-more _ _ (c .before .before .before .before .before .before .before .args .negative) (c .before .before .before .before .before .loop .j) s (sym (c .before .before .is-digit .ensures) ∙ c .before .if1 .taken), rw (c .digit .ensures) (number-more _ _ _ (c .before .before .before .before .before .loop .j) d))
+
+returns : tie.Need-returns Inv-loop μ-loop
+returns c = sym (digits-broken _ _ (c .before .before .before .before .before .before .args .negative) (c .before .before .before .before .loop .j) _ (c .before .before .before .loop-test .taken) (c .before .before .before .before .loop .inv .1) (sym (c .before .is-digit .ensures) ∙ c .if1 .left))
+
+returns-2 : tie.Need-returns-2 Inv-loop μ-loop
+returns-2 c = rw (c .if2 .taken) at (digits-last _ _ (c .before .before .before .before .args .negative) _ (c .before .before .loop .j) (c .before .before .before .before .args .n) (omega arith) (c .before .before .loop .inv .1) (c .before .before .loop .inv .2))
+
+returns-3 : tie.Need-returns-3 Inv-loop μ-loop
+returns-3 c = rw (c .if2 .left) at (digits-last _ _ (c .before .before .before .before .args .negative) _ (c .before .before .loop .j) (c .before .before .before .before .args .n) (omega arith) (c .before .before .loop .inv .1) (c .before .before .loop .inv .2))
+
+pub read-digits-spec : {M : Type 1} → statement M
+read-digits-spec =
+    tie.close
+    (tie.spec
+    Inv-loop
+    μ-loop
+    loop-holds
+    add-b
+    shared-slice-read-b
+    is-digit-requires
+    mul-v
+    digit-requires
+    add-v
+    add-j
+    loop-less
+    loop-again
+    returns
+    returns-2
+    returns-3)

@@ -1,0 +1,69 @@
+-- Each byte after the spaces decides its law of the shapes. Assumes nothing.
+use Prim.Native.Nat.{_+_, _<_}
+use native.Mathlib.Omega.{arith}
+use mathlib.Core.Path.{sym, _∙_}
+use Rattle.columns.proofs.Shapes.{leading-digit, minus-first, zero-last, zero-leads, digit-first, other-first, number-first}
+use borrow.Author.Needs.{needs}
+use Rattle.columns.proofs.reading.read_filled.Statement.{statement}
+use Rattle.columns.proofs.reading.read_filled.Tie as tie
+
+add-b : tie.Need-add-b
+add-b c = search needs
+
+shared-slice-read-b : tie.Need-shared-slice-read-b
+shared-slice-read-b c = search needs
+
+add-next : tie.Need-add-next
+add-next c = search needs
+
+is-leading-requires : tie.Need-is-leading-requires
+is-leading-requires c κs = search needs
+
+digit-requires : tie.Need-digit-requires
+digit-requires c κs = leading-digit _ (sym (c .before .is-leading .ensures) ∙ c .if1 .taken)
+
+read-digits-requires : tie.Need-read-digits-requires
+read-digits-requires c κs =
+    let (e, z, p) = c .before .before .before .before .before .pre .1 in
+    ((omega arith, omega arith, omega arith), (digit-first _ _ (c .before .before .before .before .before .args .i) e (sym (c .before .before .is-leading .ensures) ∙ c .before .if1 .taken), rw (c .digit .ensures) (number-first _ _ (c .before .before .before .before .before .args .i) z)))
+
+returns : tie.Need-returns
+returns c = search needs
+
+read-negative-requires : tie.Need-read-negative-requires
+read-negative-requires c κs =
+    let (e, z) = minus-first _ _ (c .before .before .before .before .before .args .i) (c .before .before .before .before .before .pre .1 .0) (c .before .before .before .before .before .pre .1 .1) (c .if2 .taken) in
+    ((omega arith, omega arith, omega arith), (e, z))
+
+returns-2 : tie.Need-returns-2
+returns-2 c = search needs
+
+returns-3 : tie.Need-returns-3
+returns-3 c = sym (zero-last _ _ (c .before .before .before .before .before .before .before .args .i) (c .before .before .before .before .before .before .before .args .n) (c .if4 .taken) (c .before .before .before .before .before .before .before .pre .1 .0) (c .before .before .before .before .before .before .before .pre .1 .1) (c .before .if3 .taken))
+
+returns-4 : tie.Need-returns-4
+returns-4 c =
+    let h : c .before .before .before .before .before .before .before .args .i + 1 < c .before .before .before .before .before .before .before .args .n = omega arith in
+    sym (zero-leads _ _ (c .before .before .before .before .before .before .before .args .i) (c .before .before .before .before .before .before .before .args .n) h (c .before .before .before .before .before .before .before .pre .1 .0) (c .before .if3 .taken))
+
+returns-5 : tie.Need-returns-5
+returns-5 c =
+    let (e, z, p) = c .before .before .before .before .before .before .pre .1 in
+    sym (other-first _ _ (c .before .before .before .before .before .before .args .i) (c .before .before .before .before .before .before .args .n) (c .before .before .before .before .before .before .pre .0 .2) e p (sym (c .before .before .before .is-leading .ensures) ∙ c .before .before .if1 .left) (c .before .if2 .left) (c .if3 .left))
+
+pub read-filled-spec : {M : Type 1} → statement M
+read-filled-spec =
+    tie.close
+    (tie.spec
+    add-b
+    shared-slice-read-b
+    add-next
+    is-leading-requires
+    digit-requires
+    read-digits-requires
+    returns
+    read-negative-requires
+    returns-2
+    returns-3
+    returns-4
+    returns-5)

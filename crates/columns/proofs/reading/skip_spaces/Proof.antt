@@ -1,0 +1,59 @@
+-- The loop's invariant: the columns passed are spaces. Assumes nothing.
+use Prim.Native.Nat.{_≤_, _-_}
+use native.Mathlib.Omega.{arith}
+use mathlib.Core.Path.{_≡_, refl}
+use borrow.Author.Tests.{ne-eqb}
+use Rattle.model.specs.declared.text.Shape.the-variants.{Spaces}
+use Rattle.model.specs.Text.{shapeOf, digitsOf}
+use Rattle.columns.proofs.Shapes.{space-more}
+use Rattle.columns.proofs.reading.skip_spaces.Statement.{statement}
+use Rattle.columns.proofs.reading.skip_spaces.Tie as tie
+
+abbrev Inv-loop : tie.InvT-loop
+Inv-loop l at n i₀ i = (i ≤ n) × (shapeOf l at i ≡ Spaces) × (digitsOf l at i ≡ 0)
+
+abbrev μ-loop : tie.MeasureT-loop
+μ-loop l at n i₀ i = n - i
+
+loop-holds : tie.Need-loop-holds Inv-loop μ-loop
+unfolding shapeOf digitsOf
+loop-holds c = (omega arith, refl, refl)
+
+add-if1 : tie.Need-add-if1 Inv-loop μ-loop
+add-if1 c = omega arith
+
+shared-slice-read-if1 : tie.Need-shared-slice-read-if1 Inv-loop μ-loop
+shared-slice-read-if1 c = omega arith
+
+returns : tie.Need-returns Inv-loop μ-loop
+returns c = ((omega arith, c .before .before .before .loop .inv .1, c .before .before .before .loop .inv .2), λ h. ne-eqb _ _ (c .if1 .taken))
+
+add-i : tie.Need-add-i Inv-loop μ-loop
+add-i c = omega arith
+
+loop-less : tie.Need-loop-less Inv-loop μ-loop
+loop-less c = omega arith
+
+loop-again : tie.Need-loop-again Inv-loop μ-loop
+loop-again c =
+    let (p, s, d) = c .before .before .before .loop .inv in
+    let (e, z) = space-more _ _ (c .before .before .before .loop .i) s d (c .if1 .left) in
+    (omega arith, e, z)
+
+returns-2 : tie.Need-returns-2 Inv-loop μ-loop
+returns-2 c = ((omega arith, c .before .loop .inv .1, c .before .loop .inv .2), λ h. absurd (omega (arith, h)))
+
+pub skip-spaces-spec : {M : Type 1} → statement M
+skip-spaces-spec =
+    tie.close
+    (tie.spec
+    Inv-loop
+    μ-loop
+    loop-holds
+    add-if1
+    shared-slice-read-if1
+    returns
+    add-i
+    loop-less
+    loop-again
+    returns-2)

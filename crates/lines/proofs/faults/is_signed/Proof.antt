@@ -1,0 +1,38 @@
+-- Each field decides its case of the definition. Assumes nothing.
+use Rattle.model.specs.Words.{shaped}
+use borrow.Author.Needs.{needs}
+use Rattle.lines.proofs.faults.is_signed.Statement.{statement}
+use Rattle.lines.proofs.faults.is_signed.Tie as tie
+
+enum-told : tie.Need-enum-told
+enum-told c = search needs
+
+enum-told-2 : tie.Need-enum-told-2
+enum-told-2 c = search needs
+
+enum-known-f : tie.Need-enum-known-f
+enum-known-f c = search needs
+
+enum-told-3 : tie.Need-enum-told-3
+enum-told-3 c = search needs
+
+returns : tie.Need-returns
+unfolding shaped
+returns c = simp (c .enum-told .given .1)
+
+returns-2 : tie.Need-returns-2
+unfolding shaped
+returns-2 c = simp (c .enum-told2 .given .1)
+
+returns-3 : tie.Need-returns-3
+unfolding shaped
+returns-3 c = simp (c .before .f .given .1)
+
+returns-4 : tie.Need-returns-4
+unfolding shaped
+returns-4 c = simp (c .enum-told3 .given .1)
+
+pub is-signed-spec : {M : Type 1} → statement M
+is-signed-spec =
+    tie.close
+    (tie.spec enum-told enum-told-2 enum-known-f enum-told-3 returns returns-2 returns-3 returns-4)

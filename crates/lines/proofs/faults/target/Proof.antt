@@ -1,0 +1,16 @@
+-- The limit is that of the content. Assumes nothing.
+use borrow.Author.Needs.{needs}
+use Rattle.model.specs.Words.{within}
+use Rattle.lines.specs.Faults.{faultOf}
+use Rattle.lines.proofs.faults.target.Statement.{statement}
+use Rattle.lines.proofs.faults.target.Tie as tie
+
+below-requires : tie.Need-below-requires
+below-requires c κs = search needs
+
+returns : tie.Need-returns
+unfolding faultOf within
+returns c f1 f5 = c .below .ensures
+
+pub target-spec : {M : Type 1} → statement M
+target-spec = tie.close (tie.spec below-requires returns)

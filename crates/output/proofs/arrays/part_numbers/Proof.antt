@@ -1,0 +1,25 @@
+use borrow.Author.Needs.{needs}
+use Rattle.output.proofs.arrays.part_numbers.Statement.{statement}
+use Rattle.output.proofs.arrays.part_numbers.Tie as tie
+
+enum-told : tie.Need-enum-told
+enum-told c = search needs
+
+enum-known-j : tie.Need-enum-known-j
+enum-known-j c = search needs
+
+number-requires : tie.Need-number-requires
+number-requires c κs = search needs
+
+place-requires : tie.Need-place-requires
+place-requires c κs = search needs
+
+returns : tie.Need-returns
+returns c = simp (c .enum-told .given .1)
+
+returns-2 : tie.Need-returns-2
+returns-2 c = simp (← c .place .ensures, ← c .before .number .ensures, c .before .before .before .j .given .1)
+
+pub part-numbers-spec : {M : Type 1} → statement M
+part-numbers-spec =
+    tie.close (tie.spec enum-told enum-known-j number-requires place-requires returns returns-2)

@@ -1,0 +1,63 @@
+// The answers as arrays of numbers, for C and Rust.
+use crate::refusal::number;
+use crate::refusal::place;
+use crate::refusal::second_place;
+use model::answers::ClaimPart;
+use model::answers::Judgement;
+use model::answers::Report;
+use model::answers::Verdict;
+ghost use mathlib.Core.Path.{_≡_};
+ghost use Rattle.output.specs.Arrays.{answerOf, partAnswer, runAnswer};
+
+// The checker's answer as four numbers.
+pub fn verdict_numbers(v: Verdict) -> [u64; 4]
+    ensures { λ r. ⌜ r ≡ answerOf v ⌝ }
+{
+    match v {
+        Verdict::Passed { points } => {
+            let n = points as u64;
+            [0, 0, 0, n]
+        }
+        Verdict::Refused(r) => {
+            let n = number(r);
+            let p = place(r);
+            let s = second_place(r);
+            [n, p, s, 0]
+        }
+    }
+}
+
+// Where claim lines stand, as four numbers.
+pub fn part_numbers(c: ClaimPart) -> [u64; 4]
+    ensures { λ r. ⌜ r ≡ partAnswer c ⌝ }
+{
+    let at = c.offset as u64;
+    let n = c.length as u64;
+    let j = c.judgement;
+    match j {
+        Judgement::Accepted => [0, 0, at, n],
+        Judgement::Refused(r) => {
+            let k = number(r);
+            let p = place(r);
+            [k, p, at, n]
+        }
+    }
+}
+
+// How a run ended, as six numbers.
+pub fn run_numbers(report: Report, steps: u32, point: usize) -> [u64; 6]
+    ensures { λ r. ⌜ r ≡ runAnswer report steps point ⌝ }
+{
+    let n = steps as u64;
+    let p = point as u64;
+    match report {
+        Report::Stopped => [0, 0, 0, 0, n, p],
+        Report::Paused => [1, 0, 0, 0, n, p],
+        Report::Refused(r) => {
+            let k = number(r);
+            let a = place(r);
+            let b = second_place(r);
+            [2, k, a, b, n, p]
+        }
+    }
+}
