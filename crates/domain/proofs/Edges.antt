@@ -10,7 +10,7 @@ use Rattle.model.specs.declared.machine.Instruction.{Instruction}
 use Rattle.model.specs.declared.claims.Range.{Range}
 use Rattle.model.specs.Limits.{variables, MAX}
 use Rattle.model.specs.Transfer.{rangesAlong, stripesAlong, factsAlong}
-use Rattle.model.proofs.Limits.{Limited}
+use Rattle.model.specs.Limited.{Limited}
 use Rattle.goals.specs.Ends.{SizedEnds}
 use Rattle.domain.specs.declared.ranges.Changes.{Changes}
 use Rattle.domain.specs.Known.{rangesOf, stripesOf, known, High, Ends}

@@ -10,7 +10,7 @@ use lib.Seq.{set-getD}
 use Rattle.model.specs.declared.claims.Range.{Range}
 use Rattle.model.specs.declared.claims.Stripe.{Stripe}
 use Rattle.model.specs.Facts.{between, rangeOf, lo, hi}
-use Rattle.goals.specs.Sizes.{stripesAlong}
+use Rattle.goals.specs.Sizes.{edgeStripes}
 use Rattle.goals.specs.Search.{someBelow}
 use Rattle.goals.specs.Rows.{SizedRows, stripeAt, withRow, HasRows}
 use Rattle.goals.proofs.Search.{some-last}
@@ -69,7 +69,7 @@ unfolding stripesOf
 stripes-more rows n = rw (add-one n) refl
 
 -- a row written after the first n
-pub stripes-written : (rows : List ℕ) (n : ℕ) (s : Stripe) → SizedRows rows → n < stripesAlong → stripesOf (withRow rows n s) (n + 1) ≡ stripesOf rows n ++ (s ∷ [])
+pub stripes-written : (rows : List ℕ) (n : ℕ) (s : Stripe) → SizedRows rows → n < edgeStripes → stripesOf (withRow rows n s) (n + 1) ≡ stripesOf rows n ++ (s ∷ [])
 stripes-written rows n s sized inside =
     stripes-more (withRow rows n s) n
     ∙ ap (λ (ss : List Stripe). ss ++ (stripeAt (withRow rows n s) n ∷ [])) (stripes-same (withRow rows n s) rows n (λ i l. stripe-other rows n s i (λ e. omega arith)))

@@ -13,7 +13,7 @@ use Rattle.model.specs.declared.claims.Stripe.{Stripe}
 use Rattle.model.specs.Limits.{registers, variables, MAX, greatestBound, greatestStripes}
 use Rattle.model.specs.Facts.{registerRange, sizeRange, unclaimedRange, lo, hi, nonEmpty}
 use Rattle.model.proofs.Tests.{cond-cases, every-below}
-use Rattle.model.proofs.Limits.{StripeLimited}
+use Rattle.model.specs.Limited.{StripeLimited}
 use Rattle.goals.specs.Ends.{SizedEnds}
 use Rattle.goals.specs.Rows.{SizedRows, stripeAt, withRow}
 use Rattle.goals.specs.Laid.{Laid, Sized}

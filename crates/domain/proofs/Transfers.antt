@@ -26,7 +26,7 @@ use Rattle.model.specs.Machine.{bytesOf}
 use Rattle.model.specs.Transfer.{nothing, operandRange, sumFits, sumRange, differenceFits, differenceRange, productFits, productRange, quotientRange, below, atLeast, atMost, overlap, without, hasOneValue, changed, operandChanged, rangesAlong, stripesAlong}
 use Rattle.model.proofs.Tests.{cond-cases}
 use Rattle.model.proofs.Values.{div-small}
-use Rattle.model.proofs.Limits.{Limited}
+use Rattle.model.specs.Limited.{Limited}
 use Rattle.domain.specs.Known.{High}
 use Rattle.domain.specs.Branches.{orderedRanges, matchedRanges, orderedStripes, matchedStripes}
 

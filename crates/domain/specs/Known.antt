@@ -8,7 +8,7 @@ use Rattle.model.specs.declared.claims.Range.{Range}
 use Rattle.model.specs.declared.claims.Stripe.{Stripe}
 use Rattle.model.specs.Limits.{variables, MAX, greatestBound, greatestStripes}
 use Rattle.model.specs.Facts.{Facts, between, hi}
-use Rattle.goals.specs.Sizes.{Numbers, stripesAlong}
+use Rattle.goals.specs.Sizes.{Numbers, edgeStripes}
 use Rattle.goals.specs.Ends.{SizedEnds}
 use Rattle.goals.specs.Rows.{SizedRows, stripeAt}
 
@@ -56,7 +56,7 @@ pub record Ends (low high : List ℕ) : Type 0 where
 -- the rows of a point: the first n stand, and all ten are bounded
 pub record Standing (rows : List ℕ) (n : ℕ) : Type 0 where
   pub few : n ≤ greatestStripes
-  pub parts : Numbers (stripesAlong * 6) greatestBound rows
+  pub parts : Numbers (edgeStripes * 6) greatestBound rows
   pub bytes : (i : ℕ) → i < n → Bytes (stripeAt rows i)
 
 -- the arrays of a point
@@ -69,4 +69,4 @@ pub record AlongEdge (low high rows : List ℕ) (n : ℕ) : Type 0 where
   pub lows : length low ≡ variables
   pub highs : SizedEnds high
   pub stripes : SizedRows rows
-  pub few : n ≤ stripesAlong
+  pub few : n ≤ edgeStripes

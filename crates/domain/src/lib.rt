@@ -8,8 +8,12 @@ use crate::ranges::write_ranges;
 use crate::stripes::carry_out;
 use crate::stripes::plan_along;
 use goals::rows::write_row;
+use goals::sizes::STRIPE_NUMBERS;
 use model::claims::Claim;
 use model::claims::Range;
+use model::limits::RESULTS_SIZE;
+use model::limits::TRAYS_SIZE;
+use model::limits::VARIABLES;
 use model::machine::Edge;
 use model::machine::Instruction;
 ghost use mathlib.Core.Path.{_≡_};
@@ -21,30 +25,30 @@ ghost use Rattle.model.specs.Facts as Model;
 ghost use Rattle.model.specs.Facts.{withClaim, nonEmpty};
 ghost use Rattle.model.specs.Listing.{stripesAmong};
 ghost use Rattle.model.specs.Transfer.{factsAlong};
-ghost use Rattle.model.proofs.Limits.{ClaimLimited, Limited};
+ghost use Rattle.model.specs.Limited.{ClaimLimited, Limited};
 ghost use Rattle.goals.specs.Rows.{SizedRows};
 ghost use Rattle.domain.specs.Known.{rangesOf, known, Ends, AtPoint, AlongEdge};
 
 // Writes the ranges of a point that claims nothing: all registers have the same range, and so have both sizes.
-pub fn unclaimed<'a>(low: &'a mut [u64; 18], high: &'a mut [u64; 18])
+pub fn unclaimed<'a>(low: &'a mut [u64; VARIABLES], high: &'a mut [u64; VARIABLES])
     ensures { λ r. ⌜ rangesOf (now (low .exit)) (now (high .exit)) ≡ Model.unclaimed .ranges ⌝ }
     ensures { λ r. ⌜ Ends (now (low .exit)) (now (high .exit)) ⌝ }
 {
     let register = Range::unclaimed(0);
-    let size = Range::unclaimed(16);
-    *low = [register.lo; 18];
-    *high = [register.hi; 18];
-    low[16] = size.lo;
-    low[17] = size.lo;
-    high[16] = size.hi;
-    high[17] = size.hi;
+    let size = Range::unclaimed(TRAYS_SIZE);
+    *low = [register.lo; VARIABLES];
+    *high = [register.hi; VARIABLES];
+    low[TRAYS_SIZE] = size.lo;
+    low[RESULTS_SIZE] = size.lo;
+    high[TRAYS_SIZE] = size.hi;
+    high[RESULTS_SIZE] = size.hi;
 }
 
 // One claim more: a new end, or a stripe after the first n rows. The answer is how many rows there are then.
 pub fn with_claim<'a>(
-    low: &'a mut [u64; 18],
-    high: &'a mut [u64; 18],
-    rows: &'a mut [u64; 60],
+    low: &'a mut [u64; VARIABLES],
+    high: &'a mut [u64; VARIABLES],
+    rows: &'a mut [u64; STRIPE_NUMBERS],
     n: usize,
     c: Claim,
 ) -> usize
@@ -75,13 +79,13 @@ pub fn with_claim<'a>(
 pub fn along<'a>(
     e: Edge,
     i: Instruction,
-    low: &'a [u64; 18],
-    high: &'a [u64; 18],
-    rows: &'a [u64; 60],
+    low: &'a [u64; VARIABLES],
+    high: &'a [u64; VARIABLES],
+    rows: &'a [u64; STRIPE_NUMBERS],
     n: usize,
-    edge_low: &'a mut [u64; 18],
-    edge_high: &'a mut [u64; 18],
-    edge_rows: &'a mut [u64; 60],
+    edge_low: &'a mut [u64; VARIABLES],
+    edge_high: &'a mut [u64; VARIABLES],
+    edge_rows: &'a mut [u64; STRIPE_NUMBERS],
 ) -> usize
     requires { ⌜ AtPoint (now low) (now high) (now rows) n ⌝ }
     requires { ⌜ Limited i ⌝ }
@@ -96,13 +100,13 @@ pub fn along<'a>(
 }
 
 // Whether no range is empty; along an edge, whether it is possible.
-pub fn is_possible<'a>(low: &'a [u64; 18], high: &'a [u64; 18]) -> bool
+pub fn is_possible<'a>(low: &'a [u64; VARIABLES], high: &'a [u64; VARIABLES]) -> bool
     requires { ⌜ (length (now low) ≡ variables) × (length (now high) ≡ variables) ⌝ }
     ensures { λ r. ⌜ r ≡ nonEmpty (rangesOf (now (low .entry)) (now (high .entry))) ⌝ }
 {
     let mut every = true;
     let mut v = 0;
-    while v < 18 {
+    while v < VARIABLES {
         every = every & (low[v] <= high[v]);
         v += 1;
     }

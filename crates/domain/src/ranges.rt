@@ -1,5 +1,7 @@
 // What an edge does to the ranges, a function for each rule.
 use model::claims::Range;
+use model::limits::MAX;
+use model::limits::VARIABLES;
 use model::machine::Edge;
 use model::machine::Instruction;
 use model::machine::Operand;
@@ -15,8 +17,8 @@ ghost use Rattle.model.specs.declared.claims.Range.{Range};
 ghost use Rattle.model.specs.Facts.{between, registerRange, rangeOf};
 ghost use Rattle.model.specs.Machine.{bytesOf};
 ghost use Rattle.model.specs.Transfer as Model;
-ghost use Rattle.model.specs.Transfer.{operandRange, sumFits, sumRange, differenceFits, differenceRange, productFits, productRange, quotientRange, atLeast, atMost, lessRanges, notLessRanges, equalRanges, unequalRanges, rangesAlong};
-ghost use Rattle.model.proofs.Limits.{OperandLimited, Limited};
+ghost use Rattle.model.specs.Transfer.{operandRange, operandChanged, sumFits, sumRange, differenceFits, differenceRange, productFits, productRange, quotientRange, atLeast, atMost, lessRanges, notLessRanges, equalRanges, unequalRanges, rangesAlong};
+ghost use Rattle.model.specs.Limited.{OperandLimited, Limited};
 ghost use Rattle.domain.specs.Known.{rangesOf, Word, Ends};
 ghost use Rattle.domain.specs.Changes.{Makes, sumAt, differenceAt, productAt, quotientAt};
 ghost use Rattle.domain.specs.Branches.{orderedRanges, matchedRanges};
@@ -44,7 +46,7 @@ pub struct Changes {
 }
 
 // The range of a variable.
-pub(crate) fn range_at<'a>(low: &'a [u64; 18], high: &'a [u64; 18], v: usize) -> Range
+pub(crate) fn range_at<'a>(low: &'a [u64; VARIABLES], high: &'a [u64; VARIABLES], v: usize) -> Range
     requires { ⌜ Ends (now low) (now high) ⌝ }
     requires { ⌜ v < variables ⌝ }
     ensures { λ r. ⌜ (r ≡ rangeOf (rangesOf (now (low .entry)) (now (high .entry))) v) × Word r ⌝ }
@@ -53,7 +55,11 @@ pub(crate) fn range_at<'a>(low: &'a [u64; 18], high: &'a [u64; 18], v: usize) ->
 }
 
 // The range of an operand.
-pub(crate) fn operand_range<'a>(low: &'a [u64; 18], high: &'a [u64; 18], o: Operand) -> Range
+pub(crate) fn operand_range<'a>(
+    low: &'a [u64; VARIABLES],
+    high: &'a [u64; VARIABLES],
+    o: Operand,
+) -> Range
     requires { ⌜ Ends (now low) (now high) ⌝ }
     requires { ⌜ OperandLimited o ⌝ }
     ensures { λ r. ⌜ (r ≡ operandRange (rangesOf (now (low .entry)) (now (high .entry))) o) × Word r ⌝ }
@@ -69,7 +75,7 @@ pub(crate) fn sum_fits(r: Range, q: Range) -> bool
     requires { ⌜ Word r × Word q ⌝ }
     ensures { λ b. ⌜ b ≡ sumFits r q ⌝ }
 {
-    r.hi + q.hi <= 4_294_967_295
+    r.hi + q.hi <= MAX
 }
 
 // The range of a sum.
@@ -118,7 +124,7 @@ pub(crate) fn product_fits(r: Range, q: Range) -> bool
     requires { ⌜ Word r × Word q ⌝ }
     ensures { λ b. ⌜ b ≡ productFits r q ⌝ }
 {
-    r.hi * q.hi <= 4_294_967_295
+    r.hi * q.hi <= MAX
 }
 
 // The range of a product.
@@ -221,7 +227,7 @@ fn without(c: u64, r: Range) -> Range
 }
 
 // The range that ADDW gives.
-fn sum_at<'a>(low: &'a [u64; 18], high: &'a [u64; 18], i: usize, o: Operand) -> Range
+fn sum_at<'a>(low: &'a [u64; VARIABLES], high: &'a [u64; VARIABLES], i: usize, o: Operand) -> Range
     requires { ⌜ Ends (now low) (now high) ⌝ }
     requires { ⌜ (i < variables) × OperandLimited o ⌝ }
     ensures { λ s. ⌜ s ≡ sumAt (rangesOf (now (low .entry)) (now (high .entry))) i o ⌝ }
@@ -230,7 +236,12 @@ fn sum_at<'a>(low: &'a [u64; 18], high: &'a [u64; 18], i: usize, o: Operand) -> 
 }
 
 // The range that SUBW gives.
-fn difference_at<'a>(low: &'a [u64; 18], high: &'a [u64; 18], i: usize, o: Operand) -> Range
+fn difference_at<'a>(
+    low: &'a [u64; VARIABLES],
+    high: &'a [u64; VARIABLES],
+    i: usize,
+    o: Operand,
+) -> Range
     requires { ⌜ Ends (now low) (now high) ⌝ }
     requires { ⌜ (i < variables) × OperandLimited o ⌝ }
     ensures { λ s. ⌜ s ≡ differenceAt (rangesOf (now (low .entry)) (now (high .entry))) i o ⌝ }
@@ -239,7 +250,12 @@ fn difference_at<'a>(low: &'a [u64; 18], high: &'a [u64; 18], i: usize, o: Opera
 }
 
 // The range that MULW gives.
-fn product_at<'a>(low: &'a [u64; 18], high: &'a [u64; 18], i: usize, o: Operand) -> Range
+fn product_at<'a>(
+    low: &'a [u64; VARIABLES],
+    high: &'a [u64; VARIABLES],
+    i: usize,
+    o: Operand,
+) -> Range
     requires { ⌜ Ends (now low) (now high) ⌝ }
     requires { ⌜ (i < variables) × OperandLimited o ⌝ }
     ensures { λ s. ⌜ s ≡ productAt (rangesOf (now (low .entry)) (now (high .entry))) i o ⌝ }
@@ -248,7 +264,12 @@ fn product_at<'a>(low: &'a [u64; 18], high: &'a [u64; 18], i: usize, o: Operand)
 }
 
 // The range that DIVF gives.
-fn quotient_at<'a>(low: &'a [u64; 18], high: &'a [u64; 18], i: usize, o: Operand) -> Range
+fn quotient_at<'a>(
+    low: &'a [u64; VARIABLES],
+    high: &'a [u64; VARIABLES],
+    i: usize,
+    o: Operand,
+) -> Range
     requires { ⌜ Ends (now low) (now high) ⌝ }
     requires { ⌜ (i < variables) × OperandLimited o ⌝ }
     ensures { λ s. ⌜ s ≡ quotientAt (rangesOf (now (low .entry)) (now (high .entry))) i o ⌝ }
@@ -265,7 +286,7 @@ fn one(v: usize, r: Range) -> Changes
 }
 
 // Nothing changed: the first variable keeps its range.
-fn unchanged<'a>(low: &'a [u64; 18], high: &'a [u64; 18]) -> Changes
+fn unchanged<'a>(low: &'a [u64; VARIABLES], high: &'a [u64; VARIABLES]) -> Changes
     requires { ⌜ Ends (now low) (now high) ⌝ }
     ensures { λ s. ⌜ Makes s (rangesOf (now (low .entry)) (now (high .entry))) (rangesOf (now (low .entry)) (now (high .entry))) ⌝ }
 {
@@ -279,8 +300,34 @@ fn range_after(i: usize, r: Range, v: usize, q: Range) -> Range
     if v == i { r } else { q }
 }
 
+// The range of an operand, which was q, once that of i has become r.
+fn operand_after(i: usize, r: Range, o: Operand, q: Range) -> Range
+    ensures { λ s. ⌜ ((rs : List Range) → i < length rs → q ≡ operandRange rs o → s ≡ operandRange (set rs i r) o) ⌝ }
+{
+    match o {
+        Operand::Variable(v) => range_after(i, r, v, q),
+        Operand::Number(_) => q,
+    }
+}
+
+// The range of i changed to r, then that of an operand to q; a number keeps its own.
+fn both(i: usize, r: Range, o: Operand, q: Range) -> Changes
+    requires { ⌜ (i < variables) × OperandLimited o ⌝ }
+    ensures { λ s. ⌜ ((rs : List Range) (f : Range → Range) → q ≡ f (operandRange (set rs i r) o) → Makes s rs (operandChanged o f (set rs i r))) ⌝ }
+{
+    match o {
+        Operand::Variable(v) => Changes { v: i, r, u: v, q },
+        Operand::Number(_) => one(i, r),
+    }
+}
+
 // BLTU taken: hi(i) below hi(o), lo(o) above lo(i).
-fn less_ranges<'a>(low: &'a [u64; 18], high: &'a [u64; 18], i: usize, o: Operand) -> Changes
+fn less_ranges<'a>(
+    low: &'a [u64; VARIABLES],
+    high: &'a [u64; VARIABLES],
+    i: usize,
+    o: Operand,
+) -> Changes
     requires { ⌜ Ends (now low) (now high) ⌝ }
     requires { ⌜ (i < variables) × OperandLimited o ⌝ }
     ensures { λ s. ⌜ Makes s (rangesOf (now (low .entry)) (now (high .entry))) (lessRanges i o (rangesOf (now (low .entry)) (now (high .entry)))) ⌝ }
@@ -288,22 +335,17 @@ fn less_ranges<'a>(low: &'a [u64; 18], high: &'a [u64; 18], i: usize, o: Operand
     let r = range_at(low, high, i);
     let q = operand_range(low, high, o);
     let first = below(q.hi, r);
-    match o {
-        Operand::Variable(v) => {
-            let second = at_least(r.lo + 1, range_after(i, first, v, q));
-            Changes {
-                v: i,
-                r: first,
-                u: v,
-                q: second,
-            }
-        }
-        Operand::Number(c) => one(i, first),
-    }
+    let after = operand_after(i, first, o, q);
+    both(i, first, o, at_least(r.lo + 1, after))
 }
 
 // BLTU not taken: lo(i) at least lo(o), hi(o) at most hi(i).
-fn not_less_ranges<'a>(low: &'a [u64; 18], high: &'a [u64; 18], i: usize, o: Operand) -> Changes
+fn not_less_ranges<'a>(
+    low: &'a [u64; VARIABLES],
+    high: &'a [u64; VARIABLES],
+    i: usize,
+    o: Operand,
+) -> Changes
     requires { ⌜ Ends (now low) (now high) ⌝ }
     requires { ⌜ (i < variables) × OperandLimited o ⌝ }
     ensures { λ s. ⌜ Makes s (rangesOf (now (low .entry)) (now (high .entry))) (notLessRanges i o (rangesOf (now (low .entry)) (now (high .entry)))) ⌝ }
@@ -311,22 +353,17 @@ fn not_less_ranges<'a>(low: &'a [u64; 18], high: &'a [u64; 18], i: usize, o: Ope
     let r = range_at(low, high, i);
     let q = operand_range(low, high, o);
     let first = at_least(q.lo, r);
-    match o {
-        Operand::Variable(v) => {
-            let second = at_most(r.hi, range_after(i, first, v, q));
-            Changes {
-                v: i,
-                r: first,
-                u: v,
-                q: second,
-            }
-        }
-        Operand::Number(c) => one(i, first),
-    }
+    let after = operand_after(i, first, o, q);
+    both(i, first, o, at_most(r.hi, after))
 }
 
 // BEQU taken: both ranges become their overlap.
-fn equal_ranges<'a>(low: &'a [u64; 18], high: &'a [u64; 18], i: usize, o: Operand) -> Changes
+fn equal_ranges<'a>(
+    low: &'a [u64; VARIABLES],
+    high: &'a [u64; VARIABLES],
+    i: usize,
+    o: Operand,
+) -> Changes
     requires { ⌜ Ends (now low) (now high) ⌝ }
     requires { ⌜ (i < variables) × OperandLimited o ⌝ }
     ensures { λ s. ⌜ Makes s (rangesOf (now (low .entry)) (now (high .entry))) (equalRanges i o (rangesOf (now (low .entry)) (now (high .entry)))) ⌝ }
@@ -334,22 +371,17 @@ fn equal_ranges<'a>(low: &'a [u64; 18], high: &'a [u64; 18], i: usize, o: Operan
     let r = range_at(low, high, i);
     let q = operand_range(low, high, o);
     let first = overlap(q, r);
-    match o {
-        Operand::Variable(v) => {
-            let second = overlap(r, range_after(i, first, v, q));
-            Changes {
-                v: i,
-                r: first,
-                u: v,
-                q: second,
-            }
-        }
-        Operand::Number(c) => one(i, first),
-    }
+    let after = operand_after(i, first, o, q);
+    both(i, first, o, overlap(r, after))
 }
 
 // BEQU not taken: an end of i equal to the one value of o moves inward.
-fn unequal_ranges<'a>(low: &'a [u64; 18], high: &'a [u64; 18], i: usize, o: Operand) -> Changes
+fn unequal_ranges<'a>(
+    low: &'a [u64; VARIABLES],
+    high: &'a [u64; VARIABLES],
+    i: usize,
+    o: Operand,
+) -> Changes
     requires { ⌜ Ends (now low) (now high) ⌝ }
     requires { ⌜ (i < variables) × OperandLimited o ⌝ }
     ensures { λ s. ⌜ Makes s (rangesOf (now (low .entry)) (now (high .entry))) (unequalRanges i o (rangesOf (now (low .entry)) (now (high .entry)))) ⌝ }
@@ -365,8 +397,8 @@ fn unequal_ranges<'a>(low: &'a [u64; 18], high: &'a [u64; 18], i: usize, o: Oper
 // The changes along an edge of BLTU.
 fn ordered_ranges<'a>(
     e: Edge,
-    low: &'a [u64; 18],
-    high: &'a [u64; 18],
+    low: &'a [u64; VARIABLES],
+    high: &'a [u64; VARIABLES],
     i: usize,
     o: Operand,
 ) -> Changes
@@ -383,8 +415,8 @@ fn ordered_ranges<'a>(
 // The changes along an edge of BEQU.
 fn matched_ranges<'a>(
     e: Edge,
-    low: &'a [u64; 18],
-    high: &'a [u64; 18],
+    low: &'a [u64; VARIABLES],
+    high: &'a [u64; VARIABLES],
     i: usize,
     o: Operand,
 ) -> Changes
@@ -402,8 +434,8 @@ fn matched_ranges<'a>(
 pub(crate) fn changes_along<'a>(
     e: Edge,
     i: Instruction,
-    low: &'a [u64; 18],
-    high: &'a [u64; 18],
+    low: &'a [u64; VARIABLES],
+    high: &'a [u64; VARIABLES],
 ) -> Changes
     requires { ⌜ Ends (now low) (now high) ⌝ }
     requires { ⌜ Limited i ⌝ }
@@ -435,10 +467,10 @@ pub(crate) fn changes_along<'a>(
 // Writes the ranges with their changes made.
 pub(crate) fn write_ranges<'a>(
     c: Changes,
-    low: &'a [u64; 18],
-    high: &'a [u64; 18],
-    new_low: &'a mut [u64; 18],
-    new_high: &'a mut [u64; 18],
+    low: &'a [u64; VARIABLES],
+    high: &'a [u64; VARIABLES],
+    new_low: &'a mut [u64; VARIABLES],
+    new_high: &'a mut [u64; VARIABLES],
 )
     requires { ⌜ (c .v < variables) × (c .u < variables) ⌝ }
     ensures { λ s. ⌜ now («new_low» .exit) ≡ set (set (now (low .entry)) (c .v) (c .r .lo)) (c .u) (c .q .lo) ⌝ }

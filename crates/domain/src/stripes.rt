@@ -5,7 +5,12 @@ use crate::ranges::product_fits;
 use crate::ranges::range_at;
 use crate::ranges::sum_fits;
 use goals::rows::write_row;
+use goals::sizes::STRIPE_NUMBERS;
 use model::claims::Stripe;
+use model::limits::BLANK_VARIABLE;
+use model::limits::GREATEST_BOUND;
+use model::limits::GREATEST_SCALE;
+use model::limits::VARIABLES;
 use model::machine::Edge;
 use model::machine::Instruction;
 use model::machine::Operand;
@@ -20,7 +25,7 @@ ghost use Rattle.model.specs.Limits.{variables, MAX, greatestBound};
 ghost use Rattle.model.specs.Facts.{rangeOf};
 ghost use Rattle.model.specs.Transfer as Model;
 ghost use Rattle.model.specs.Transfer.{operandRange, sumFits, differenceFits, productFits, boundInLimits, ifIs, byNumber, sumStripes, differenceStripes, productStripes, lessStripes, notLessStripes, equalStripes, stripesAlong};
-ghost use Rattle.model.proofs.Limits.{OperandLimited, ArithmeticLimited, Limited};
+ghost use Rattle.model.specs.Limited.{OperandLimited, ArithmeticLimited, Limited};
 ghost use Rattle.goals.specs.Sizes as goal;
 ghost use Rattle.goals.specs.Sizes.{greatestPart};
 ghost use Rattle.goals.specs.Rows.{SizedRows, stripeAt};
@@ -96,7 +101,7 @@ fn bound_in_limits(s: Stripe) -> bool
     requires { ⌜ Small greatestPart s ⌝ }
     ensures { λ r. ⌜ r ≡ boundInLimits s ⌝ }
 {
-    (s.plus <= s.minus + 4_398_046_511_104) & (s.minus <= s.plus + 4_398_046_511_104)
+    (s.plus <= s.minus + GREATEST_BOUND) & (s.minus <= s.plus + GREATEST_BOUND)
 }
 
 // All stripes kept.
@@ -206,7 +211,7 @@ fn apart(u: usize, v: usize, plus: u64, minus: u64) -> Stripe
         x: u as u8,
         a: 1,
         y: v as u8,
-        z: 18,
+        z: BLANK_VARIABLE as u8,
         plus,
         minus,
     }
@@ -272,8 +277,8 @@ fn scaled_stripes(d: usize, i: usize, c: u32) -> Plan
     requires { ⌜ (d < variables) × (i < variables) ⌝ }
     ensures { λ p. ⌜ Does p (λ (ss : List Stripe). productStripes d i (Number c) ss) ⌝ }
 {
-    if (1 <= c) & (c <= 255) & (d != i) {
-        return one_and_dropped(stripe(d, c as u8, i, 18), d);
+    if (1 <= c) & (c <= GREATEST_SCALE as u32) & (d != i) {
+        return one_and_dropped(stripe(d, c as u8, i, BLANK_VARIABLE), d);
     }
     dropped(d)
 }
@@ -324,8 +329,8 @@ fn equal_stripes(i: usize, o: Operand) -> Plan
 
 // The stripes after ADDW.
 fn stripes_of_sum<'a>(
-    low: &'a [u64; 18],
-    high: &'a [u64; 18],
+    low: &'a [u64; VARIABLES],
+    high: &'a [u64; VARIABLES],
     d: usize,
     i: usize,
     o: Operand,
@@ -342,8 +347,8 @@ fn stripes_of_sum<'a>(
 
 // The stripes after SUBW.
 fn stripes_of_difference<'a>(
-    low: &'a [u64; 18],
-    high: &'a [u64; 18],
+    low: &'a [u64; VARIABLES],
+    high: &'a [u64; VARIABLES],
     d: usize,
     i: usize,
     o: Operand,
@@ -360,8 +365,8 @@ fn stripes_of_difference<'a>(
 
 // The stripes after MULW.
 fn stripes_of_product<'a>(
-    low: &'a [u64; 18],
-    high: &'a [u64; 18],
+    low: &'a [u64; VARIABLES],
+    high: &'a [u64; VARIABLES],
     d: usize,
     i: usize,
     o: Operand,
@@ -402,8 +407,8 @@ fn matched_stripes(e: Edge, i: usize, o: Operand) -> Plan
 pub(crate) fn plan_along<'a>(
     e: Edge,
     i: Instruction,
-    low: &'a [u64; 18],
-    high: &'a [u64; 18],
+    low: &'a [u64; VARIABLES],
+    high: &'a [u64; VARIABLES],
 ) -> Plan
     requires { ⌜ Ends (now low) (now high) ⌝ }
     requires { ⌜ Limited i ⌝ }
@@ -433,8 +438,8 @@ pub(crate) fn plan_along<'a>(
 }
 
 // The i-th row as a stripe.
-fn row_at(rows: &[u64; 60], i: usize) -> Stripe
-    requires { ⌜ (i < goal.stripesAlong) × Bytes (stripeAt (now rows) i) ⌝ }
+fn row_at(rows: &[u64; STRIPE_NUMBERS], i: usize) -> Stripe
+    requires { ⌜ (i < goal.edgeStripes) × Bytes (stripeAt (now rows) i) ⌝ }
     ensures { λ s. ⌜ s ≡ stripeAt (now (rows .entry)) i ⌝ }
 {
     let at = i * 6;
@@ -449,9 +454,9 @@ fn row_at(rows: &[u64; 60], i: usize) -> Stripe
 }
 
 // Writes the stripe after the first m rows, and answers how many there are then.
-fn put(rows: &mut [u64; 60], m: usize, s: Stripe) -> usize
+fn put(rows: &mut [u64; STRIPE_NUMBERS], m: usize, s: Stripe) -> usize
     requires { ⌜ SizedRows (now rows) ⌝ }
-    requires { ⌜ (m < goal.stripesAlong) × goal.Small s ⌝ }
+    requires { ⌜ (m < goal.edgeStripes) × goal.Small s ⌝ }
     ensures { λ r. ⌜ Extends (now (rows .entry)) m (now (rows .exit)) r (s ∷ []) × (r ≡ m + 1) ⌝ }
 {
     write_row(rows, m, s);
@@ -459,7 +464,7 @@ fn put(rows: &mut [u64; 60], m: usize, s: Stripe) -> usize
 }
 
 // Writes what is added as the first rows, and answers how many they are.
-fn put_added(a: Added, rows: &mut [u64; 60]) -> usize
+fn put_added(a: Added, rows: &mut [u64; STRIPE_NUMBERS]) -> usize
     requires { ⌜ SizedRows (now rows) ⌝ }
     requires { ⌜ AddedLimited a ⌝ }
     ensures { λ r. ⌜ Extends (now (rows .entry)) 0 (now (rows .exit)) r (addedTo a []) × (r ≤ 2) ⌝ }
@@ -475,11 +480,11 @@ fn put_added(a: Added, rows: &mut [u64; 60]) -> usize
 }
 
 // Writes what is kept of a stripe after the first m rows, and answers how many there are then.
-fn put_kept(k: Kept, s: Stripe, rows: &mut [u64; 60], m: usize) -> usize
+fn put_kept(k: Kept, s: Stripe, rows: &mut [u64; STRIPE_NUMBERS], m: usize) -> usize
     requires { ⌜ Small greatestBound s ⌝ }
     requires { ⌜ ShiftLimited k ⌝ }
     requires { ⌜ SizedRows (now rows) ⌝ }
-    requires { ⌜ m < goal.stripesAlong ⌝ }
+    requires { ⌜ m < goal.edgeStripes ⌝ }
     ensures { λ r. ⌜ Extends (now (rows .entry)) m (now (rows .exit)) r (keptOf k (s ∷ [])) × (r ≤ m + 1) ⌝ }
 {
     match k {
@@ -503,16 +508,16 @@ fn put_kept(k: Kept, s: Stripe, rows: &mut [u64; 60], m: usize) -> usize
 // Writes what is kept of the first n rows after the first m new ones, and answers how many there are then.
 fn put_all<'a>(
     k: Kept,
-    rows: &'a [u64; 60],
+    rows: &'a [u64; STRIPE_NUMBERS],
     n: usize,
-    new_rows: &'a mut [u64; 60],
+    new_rows: &'a mut [u64; STRIPE_NUMBERS],
     m: usize,
 ) -> usize
     requires { ⌜ ShiftLimited k ⌝ }
     requires { ⌜ Standing (now rows) n ⌝ }
     requires { ⌜ SizedRows (now «new_rows») ⌝ }
     requires { ⌜ m ≤ 2 ⌝ }
-    ensures { λ r. ⌜ Extends (now («new_rows» .entry)) m (now («new_rows» .exit)) r (keptOf k (stripesOf (now (rows .entry)) n)) × (r ≤ goal.stripesAlong) ⌝ }
+    ensures { λ r. ⌜ Extends (now («new_rows» .entry)) m (now («new_rows» .exit)) r (keptOf k (stripesOf (now (rows .entry)) n)) × (r ≤ goal.edgeStripes) ⌝ }
 {
     let mut r = m;
     let mut i = 0;
@@ -526,14 +531,14 @@ fn put_all<'a>(
 // Carries the plan out on the first n rows, and answers how many new ones there are.
 pub(crate) fn carry_out<'a>(
     p: Plan,
-    rows: &'a [u64; 60],
+    rows: &'a [u64; STRIPE_NUMBERS],
     n: usize,
-    new_rows: &'a mut [u64; 60],
+    new_rows: &'a mut [u64; STRIPE_NUMBERS],
 ) -> usize
     requires { ⌜ ShiftLimited (p .kept) × AddedLimited (p .added) ⌝ }
     requires { ⌜ Standing (now rows) n ⌝ }
     requires { ⌜ SizedRows (now «new_rows») ⌝ }
-    ensures { λ r. ⌜ (stripesOf (now («new_rows» .exit)) r ≡ addedTo (p .added) (keptOf (p .kept) (stripesOf (now (rows .entry)) n))) × SizedRows (now («new_rows» .exit)) × (r ≤ goal.stripesAlong) ⌝ }
+    ensures { λ r. ⌜ (stripesOf (now («new_rows» .exit)) r ≡ addedTo (p .added) (keptOf (p .kept) (stripesOf (now (rows .entry)) n))) × SizedRows (now («new_rows» .exit)) × (r ≤ goal.edgeStripes) ⌝ }
 {
     let a = p.added;
     let k = p.kept;

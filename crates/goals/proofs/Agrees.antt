@@ -14,7 +14,7 @@ use Rattle.model.specs.Facts.{Facts, lo, hi}
 use Rattle.model.specs.Transfer.{stripe}
 use Rattle.model.specs.Follows as known
 use Rattle.model.specs.Follows.{covers, throughLink, claimFollows}
-use Rattle.model.proofs.Limits.{StripeLimited, ClaimLimited}
+use Rattle.model.specs.Limited.{StripeLimited, ClaimLimited}
 use Rattle.goals.specs.Sizes.{Small}
 use Rattle.goals.specs.Ends.{HasHighs}
 use Rattle.goals.specs.Rows.{HasRows}

@@ -8,7 +8,7 @@ use lib.ListN.{getD, set, length, length-set, replicate, getD-replicate, length-
 use lib.Seq.{getD-set-same, getD-set-other}
 use Rattle.model.specs.declared.claims.Stripe.{Stripe}
 use Rattle.model.specs.Transfer.{apart}
-use Rattle.goals.specs.Sizes.{greatestPart, stripesAlong, Numbers, Small}
+use Rattle.goals.specs.Sizes.{greatestPart, edgeStripes, Numbers, Small}
 use Rattle.goals.specs.Rows.{SizedRows, stripeAt, withRow}
 use Rattle.goals.specs.Links.{SizedLinks, linkAt, withLink}
 
@@ -55,11 +55,11 @@ module _ (l : List ℕ) (j v u p m : ℕ) where
       )
       refl
 
-  pub link-there : SizedLinks l → j < stripesAlong → linkAt (withLink l j v u p m) j ≡ apart u v p m
+  pub link-there : SizedLinks l → j < edgeStripes → linkAt (withLink l j v u p m) j ≡ apart u v p m
   link-there n h =
-      let e1 : length l1 ≡ stripesAlong * 4 = length-set l (j * 4) v ∙ n .long in
-      let e2 : length l2 ≡ stripesAlong * 4 = length-set l1 (j * 4 + 1) u ∙ e1 in
-      let e3 : length l3 ≡ stripesAlong * 4 = length-set l2 (j * 4 + 2) p ∙ e2 in
+      let e1 : length l1 ≡ edgeStripes * 4 = length-set l (j * 4) v ∙ n .long in
+      let e2 : length l2 ≡ edgeStripes * 4 = length-set l1 (j * 4 + 1) u ∙ e1 in
+      let e3 : length l3 ≡ edgeStripes * 4 = length-set l2 (j * 4 + 2) p ∙ e2 in
       let gv : getD (withLink l j v u p m) (j * 4) 0 ≡ v =
       getD-set-other l3 (j * 4 + 3) (j * 4) m 0 (λ e. omega arith) ∙ getD-set-other l2 (j * 4 + 2) (j * 4) p 0 (λ e. omega arith)
       ∙ getD-set-other l1 (j * 4 + 1) (j * 4) u 0 (λ e. omega arith) ∙ getD-set-same l (j * 4) v 0 (omega (arith, n .long)) in
@@ -73,7 +73,7 @@ module _ (l : List ℕ) (j v u p m : ℕ) where
 
   pub link-sized : v ≤ greatestPart → u ≤ greatestPart → p ≤ greatestPart → m ≤ greatestPart → SizedLinks l → SizedLinks (withLink l j v u p m)
   link-sized a b c d n =
-      let w = stripesAlong * 4 in
+      let w = edgeStripes * 4 in
       set-numbers w greatestPart l3 (j * 4 + 3) m d
       (set-numbers w greatestPart l2 (j * 4 + 2) p c
       (set-numbers w greatestPart l1 (j * 4 + 1) u b
@@ -117,9 +117,9 @@ module _ (l : List ℕ) (j : ℕ) (s : Stripe) where
       refl
 
   -- six numbers written, each at most b
-  pub row-numbers : (b : ℕ) → s .x ≤ b → s .a ≤ b → s .y ≤ b → s .z ≤ b → s .plus ≤ b → s .minus ≤ b → Numbers (stripesAlong * 6) b l → Numbers (stripesAlong * 6) b (withRow l j s)
+  pub row-numbers : (b : ℕ) → s .x ≤ b → s .a ≤ b → s .y ≤ b → s .z ≤ b → s .plus ≤ b → s .minus ≤ b → Numbers (edgeStripes * 6) b l → Numbers (edgeStripes * 6) b (withRow l j s)
   row-numbers b x a y z plus minus n =
-      let w = stripesAlong * 6 in
+      let w = edgeStripes * 6 in
       set-numbers w b r5 (j * 6 + 5) (s .minus) minus
       (set-numbers w b r4 (j * 6 + 4) (s .plus) plus
       (set-numbers w b r3 (j * 6 + 3) (s .z) z
@@ -131,22 +131,22 @@ module _ (l : List ℕ) (j : ℕ) (s : Stripe) where
   row-sized x a y z small n = row-numbers greatestPart (omega arith) (omega arith) (omega arith) (omega arith) (small .plus) (small .minus) n
 
   module _ (n : SizedRows l) where
-    e1 : length r1 ≡ stripesAlong * 6
+    e1 : length r1 ≡ edgeStripes * 6
     e1 = length-set l (j * 6) (s .x) ∙ n .long
 
-    e2 : length r2 ≡ stripesAlong * 6
+    e2 : length r2 ≡ edgeStripes * 6
     e2 = length-set r1 (j * 6 + 1) (s .a) ∙ e1
 
-    e3 : length r3 ≡ stripesAlong * 6
+    e3 : length r3 ≡ edgeStripes * 6
     e3 = length-set r2 (j * 6 + 2) (s .y) ∙ e2
 
-    e4 : length r4 ≡ stripesAlong * 6
+    e4 : length r4 ≡ edgeStripes * 6
     e4 = length-set r3 (j * 6 + 3) (s .z) ∙ e3
 
-    e5 : length r5 ≡ stripesAlong * 6
+    e5 : length r5 ≡ edgeStripes * 6
     e5 = length-set r4 (j * 6 + 4) (s .plus) ∙ e4
 
-    pub stripe-there : j < stripesAlong → stripeAt (withRow l j s) j ≡ s
+    pub stripe-there : j < edgeStripes → stripeAt (withRow l j s) j ≡ s
     stripe-there h =
         let gx : getD (withRow l j s) (j * 6) 0 ≡ s .x =
         getD-set-other r5 (j * 6 + 5) (j * 6) (s .minus) 0 (λ e. omega arith) ∙ getD-set-other r4 (j * 6 + 4) (j * 6) (s .plus) 0 (λ e. omega arith) ∙ getD-set-other r3 (j * 6 + 3) (j * 6) (s .z) 0 (λ e. omega arith)

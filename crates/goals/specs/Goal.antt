@@ -8,7 +8,7 @@ use lib.Dec.{leb, eqb}
 use Rattle.model.specs.declared.claims.Stripe.{Stripe}
 use Rattle.model.specs.Limits.{MAX}
 use Rattle.model.specs.Follows.{covers, overY, overZ}
-use Rattle.goals.specs.Sizes.{stripesAlong}
+use Rattle.goals.specs.Sizes.{edgeStripes}
 use Rattle.goals.specs.Search.{someBelow}
 use Rattle.goals.specs.Ends.{SizedEnds}
 use Rattle.goals.specs.Rows.{SizedRows, stripeAt}
@@ -48,9 +48,9 @@ pub record Near (high : List ℕ) (low : ℕ) (rows : List ℕ) (n : ℕ) : Type
   pub highs : SizedEnds high
   pub bottom : low ≤ MAX
   pub stripes : SizedRows rows
-  pub count : n ≤ stripesAlong
+  pub count : n ≤ edgeStripes
 
 -- the sizes of the links
 pub record Linked (links : List ℕ) (k : ℕ) : Type 0 where
   pub linked : SizedLinks links
-  pub all : k ≤ stripesAlong
+  pub all : k ≤ edgeStripes

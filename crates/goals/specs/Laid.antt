@@ -2,7 +2,7 @@
 use Prim.Native.Nat.{ℕ, _≤_}
 use mathlib.Core.List.{List}
 use Rattle.model.specs.Facts.{Facts}
-use Rattle.goals.specs.Sizes.{stripesAlong}
+use Rattle.goals.specs.Sizes.{edgeStripes}
 use Rattle.goals.specs.Ends.{SizedEnds, HasHighs, HasLows}
 use Rattle.goals.specs.Rows.{SizedRows, HasRows}
 
@@ -17,4 +17,4 @@ pub record Sized (high low rows : List ℕ) (n : ℕ) : Type 0 where
   pub highs : SizedEnds high
   pub lows : SizedEnds low
   pub stripes : SizedRows rows
-  pub count : n ≤ stripesAlong
+  pub count : n ≤ edgeStripes

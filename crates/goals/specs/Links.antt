@@ -8,13 +8,13 @@ use lib.ListN.{getD, set}
 use Rattle.model.specs.declared.claims.Stripe.{Stripe}
 use Rattle.model.specs.Transfer.{apart}
 use Rattle.model.specs.Follows.{isLink}
-use Rattle.goals.specs.Sizes.{greatestPart, stripesAlong, Numbers}
+use Rattle.goals.specs.Sizes.{greatestPart, edgeStripes, Numbers}
 use Rattle.goals.specs.Search.{someBelow}
 use Rattle.goals.specs.Rows.{stripeAt}
 
 -- a list of links
 abbrev pub SizedLinks : List ℕ → Type 0
-SizedLinks l = Numbers (stripesAlong * 4) greatestPart l
+SizedLinks l = Numbers (edgeStripes * 4) greatestPart l
 
 -- the i-th link
 abbrev pub linkAt : List ℕ → ℕ → Stripe

@@ -6,12 +6,12 @@ use mathlib.Core.List.{List}
 use lib.ListN.{getD, set}
 use Rattle.model.specs.declared.claims.Stripe.{Stripe}
 use Rattle.model.specs.Lists.{some}
-use Rattle.goals.specs.Sizes.{greatestPart, stripesAlong, Numbers}
+use Rattle.goals.specs.Sizes.{greatestPart, edgeStripes, Numbers}
 use Rattle.goals.specs.Search.{someBelow}
 
 -- a list of rows
 abbrev pub SizedRows : List ℕ → Type 0
-SizedRows l = Numbers (stripesAlong * 6) greatestPart l
+SizedRows l = Numbers (edgeStripes * 6) greatestPart l
 
 -- the i-th row
 abbrev pub stripeAt : List ℕ → ℕ → Stripe

@@ -18,8 +18,8 @@ abbrev pub greatestSum : ℕ
 greatestSum = 1152921504606846976
 
 -- the stripes along an edge: those of a point and what its instruction adds
-abbrev pub stripesAlong : ℕ
-stripesAlong = 10
+abbrev pub edgeStripes : ℕ
+edgeStripes = 10
 
 -- a list of m numbers, each at most b
 pub record Numbers (m b : ℕ) (l : List ℕ) : Type 0 where

@@ -4,8 +4,12 @@ use crate::links::gather;
 use crate::links::touches;
 use crate::rows::stands;
 use crate::rows::wide;
+use crate::sizes::LINK_NUMBERS;
+use crate::sizes::STRIPE_NUMBERS;
 use model::claims::Claim;
 use model::claims::Stripe;
+use model::limits::GREATEST_LINKS;
+use model::limits::VARIABLES;
 ghost use mathlib.Core.Path.{_≡_};
 ghost use Prim.Native.Nat.{_+_, _*_, _≤_, _<_};
 ghost use Rattle.model.specs.Limits.{MAX, greatestLinks};
@@ -13,7 +17,7 @@ ghost use Rattle.model.specs.Facts.{Facts};
 ghost use Rattle.model.specs.Transfer.{stripe};
 ghost use Rattle.model.specs.Follows;
 ghost use Rattle.model.specs.Follows.{claimFollows};
-ghost use Rattle.model.proofs.Limits.{ClaimLimited};
+ghost use Rattle.model.specs.Limited.{ClaimLimited};
 ghost use Rattle.goals.specs.Sizes.{greatestPart, greatestStep, Small, Room};
 ghost use Rattle.goals.specs.Ends.{SizedEnds};
 ghost use Rattle.goals.specs.Links.{linkAt};
@@ -30,7 +34,16 @@ fn scaled(a: u8, n: u64) -> u64
 }
 
 // Whether the ends alone show the goal; low is the low end of its x.
-fn by_ends(high: &[u64; 18], low: u64, x: u64, a: u8, y: u64, z: u64, plus: u64, minus: u64) -> bool
+fn by_ends(
+    high: &[u64; VARIABLES],
+    low: u64,
+    x: u64,
+    a: u8,
+    y: u64,
+    z: u64,
+    plus: u64,
+    minus: u64,
+) -> bool
     requires { ⌜ SizedEnds (now high) × (low ≤ MAX) ⌝ }
     requires { ⌜ Room 0 (stripe x a y z plus minus) ⌝ }
     ensures { λ r. ⌜ r ≡ Goal.byEnds (now (high .entry)) low (stripe x a y z plus minus) ⌝ }
@@ -41,9 +54,9 @@ fn by_ends(high: &[u64; 18], low: u64, x: u64, a: u8, y: u64, z: u64, plus: u64,
 
 // Whether the goal follows with no link.
 fn at_once<'a>(
-    high: &'a [u64; 18],
+    high: &'a [u64; VARIABLES],
     low: u64,
-    rows: &'a [u64; 60],
+    rows: &'a [u64; STRIPE_NUMBERS],
     count: usize,
     x: u64,
     a: u8,
@@ -64,11 +77,11 @@ fn at_once<'a>(
 
 // Whether the goal follows within `left` links; their number falls at each use of one.
 fn follows<'a>(
-    high: &'a [u64; 18],
+    high: &'a [u64; VARIABLES],
     low: u64,
-    rows: &'a [u64; 60],
+    rows: &'a [u64; STRIPE_NUMBERS],
     count: usize,
-    links: &'a [u64; 40],
+    links: &'a [u64; LINK_NUMBERS],
     all: usize,
     x: u64,
     a: u8,
@@ -108,11 +121,11 @@ fn follows<'a>(
 
 // Whether the goal follows by a link and at most `left` more.
 fn linked<'a>(
-    high: &'a [u64; 18],
+    high: &'a [u64; VARIABLES],
     low: u64,
-    rows: &'a [u64; 60],
+    rows: &'a [u64; STRIPE_NUMBERS],
     count: usize,
-    links: &'a [u64; 40],
+    links: &'a [u64; LINK_NUMBERS],
     all: usize,
     x: u64,
     a: u8,
@@ -156,11 +169,11 @@ fn linked<'a>(
 
 // Whether the goal follows by the i-th link, in the place of y or of z, and at most `left` more. Where y is z one of the two is enough.
 fn through<'a>(
-    high: &'a [u64; 18],
+    high: &'a [u64; VARIABLES],
     low: u64,
-    rows: &'a [u64; 60],
+    rows: &'a [u64; STRIPE_NUMBERS],
     count: usize,
-    links: &'a [u64; 40],
+    links: &'a [u64; LINK_NUMBERS],
     all: usize,
     x: u64,
     a: u8,
@@ -221,9 +234,9 @@ fn through<'a>(
 
 // Whether the goal follows within three links. The links are gathered only for a goal that does not follow at once.
 pub fn goal_follows<'a>(
-    high: &'a [u64; 18],
-    low: &'a [u64; 18],
-    rows: &'a [u64; 60],
+    high: &'a [u64; VARIABLES],
+    low: &'a [u64; VARIABLES],
+    rows: &'a [u64; STRIPE_NUMBERS],
     count: usize,
     g: Stripe,
 ) -> bool
@@ -238,7 +251,7 @@ pub fn goal_follows<'a>(
     if at_once(high, bottom, rows, count, x, g.a, y, z, g.plus, g.minus) {
         return true;
     }
-    let mut links: [u64; 40] = [0; 40];
+    let mut links: [u64; LINK_NUMBERS] = [0; LINK_NUMBERS];
     let all = gather(rows, count, &mut links);
     follows(
         high,
@@ -253,15 +266,15 @@ pub fn goal_follows<'a>(
         z,
         g.plus,
         g.minus,
-        3,
+        GREATEST_LINKS,
     )
 }
 
 // Whether a claim follows.
 pub fn claim_follows<'a>(
-    high: &'a [u64; 18],
-    low: &'a [u64; 18],
-    rows: &'a [u64; 60],
+    high: &'a [u64; VARIABLES],
+    low: &'a [u64; VARIABLES],
+    rows: &'a [u64; STRIPE_NUMBERS],
     count: usize,
     c: Claim,
 ) -> bool

@@ -3,3 +3,4 @@ mod ends;
 pub mod follows;
 mod links;
 pub mod rows;
+pub mod sizes;

@@ -1,27 +1,30 @@
 // The links along an edge as rows of four numbers, of two between the same variables the better one.
+use crate::sizes::LINK_NUMBERS;
+use crate::sizes::STRIPE_NUMBERS;
+use model::limits::BLANK_VARIABLE;
 ghost use mathlib.Core.Path.{_≡_};
 ghost use Prim.Native.Nat.{_+_, _*_, _≤_, _<_};
 ghost use lib.Dec.{leb};
 ghost use lib.ListN.{getD};
 ghost use Rattle.model.specs.Transfer.{apart};
 ghost use Rattle.model.specs.Follows.{isLink};
-ghost use Rattle.goals.specs.Sizes.{greatestPart, stripesAlong};
+ghost use Rattle.goals.specs.Sizes.{greatestPart, edgeStripes};
 ghost use Rattle.goals.specs.Rows.{SizedRows, stripeAt};
 ghost use Rattle.goals.specs.Links.{SizedLinks, linkAt, withLink, Added, Grown, Gathered};
 ghost use Rattle.goals.specs.Goal;
 
 // Whether the i-th row is a link.
-fn is_link(rows: &[u64; 60], i: usize) -> bool
-    requires { ⌜ i < stripesAlong ⌝ }
+fn is_link(rows: &[u64; STRIPE_NUMBERS], i: usize) -> bool
+    requires { ⌜ i < edgeStripes ⌝ }
     ensures { λ r. ⌜ r ≡ isLink (stripeAt (now (rows .entry)) i) ⌝ }
 {
     let at = i * 6;
-    (rows[at + 1] == 1) & (rows[at + 3] == 18)
+    (rows[at + 1] == 1) & (rows[at + 3] == BLANK_VARIABLE as u64)
 }
 
 // Writes the i-th link.
-fn write_link(links: &mut [u64; 40], i: usize, v: u64, u: u64, plus: u64, minus: u64)
-    requires { ⌜ i < stripesAlong ⌝ }
+fn write_link(links: &mut [u64; LINK_NUMBERS], i: usize, v: u64, u: u64, plus: u64, minus: u64)
+    requires { ⌜ i < edgeStripes ⌝ }
     ensures { λ r. ⌜ now (links .exit) ≡ withLink (now (links .entry)) i v u plus minus ⌝ }
 {
     let at = i * 4;
@@ -32,8 +35,8 @@ fn write_link(links: &mut [u64; 40], i: usize, v: u64, u: u64, plus: u64, minus:
 }
 
 // The place of a link from v to u among the first k, or k where there is none.
-fn place(links: &[u64; 40], k: usize, v: u64, u: u64) -> usize
-    requires { ⌜ k ≤ stripesAlong ⌝ }
+fn place(links: &[u64; LINK_NUMBERS], k: usize, v: u64, u: u64) -> usize
+    requires { ⌜ k ≤ edgeStripes ⌝ }
     ensures { λ r. ⌜ (r ≤ k) × (r < k → (getD (now (links .entry)) (r * 4) 0 ≡ v) × (getD (now (links .entry)) (r * 4 + 1) 0 ≡ u)) ⌝ }
 {
     let mut i = 0;
@@ -52,9 +55,9 @@ fn place(links: &[u64; 40], k: usize, v: u64, u: u64) -> usize
 }
 
 // Whether the i-th link has a bound of at least plus - minus.
-fn enough(links: &[u64; 40], i: usize, plus: u64, minus: u64) -> bool
+fn enough(links: &[u64; LINK_NUMBERS], i: usize, plus: u64, minus: u64) -> bool
     requires { ⌜ SizedLinks (now links) ⌝ }
-    requires { ⌜ (i < stripesAlong) × (plus ≤ greatestPart) × (minus ≤ greatestPart) ⌝ }
+    requires { ⌜ (i < edgeStripes) × (plus ≤ greatestPart) × (minus ≤ greatestPart) ⌝ }
     ensures { λ r. ⌜ r ≡ leb (plus + getD (now (links .entry)) (i * 4 + 3) 0) (getD (now (links .entry)) (i * 4 + 2) 0 + minus) ⌝ }
 {
     let at = i * 4;
@@ -62,9 +65,16 @@ fn enough(links: &[u64; 40], i: usize, plus: u64, minus: u64) -> bool
 }
 
 // Adds the link from v to u to the first k; where one stands between the two, the better one takes its place.
-fn add_link(links: &mut [u64; 40], k: usize, v: u64, u: u64, plus: u64, minus: u64) -> usize
+fn add_link(
+    links: &mut [u64; LINK_NUMBERS],
+    k: usize,
+    v: u64,
+    u: u64,
+    plus: u64,
+    minus: u64,
+) -> usize
     requires { ⌜ SizedLinks (now links) ⌝ }
-    requires { ⌜ (k < stripesAlong) × (v ≤ greatestPart) × (u ≤ greatestPart) × (plus ≤ greatestPart) × (minus ≤ greatestPart) ⌝ }
+    requires { ⌜ (k < edgeStripes) × (v ≤ greatestPart) × (u ≤ greatestPart) × (plus ≤ greatestPart) × (minus ≤ greatestPart) ⌝ }
     ensures { λ r. ⌜ (r ≤ k + 1) × SizedLinks (now (links .exit)) ⌝ }
     ensures { λ r. ⌜ Added (now (links .exit)) r (now (links .entry)) k (apart u v plus minus) ⌝ }
 {
@@ -81,10 +91,15 @@ fn add_link(links: &mut [u64; 40], k: usize, v: u64, u: u64, plus: u64, minus: u
 }
 
 // Adds the i-th row to the first k links, if it is a link.
-fn add_row<'a>(rows: &'a [u64; 60], i: usize, links: &'a mut [u64; 40], k: usize) -> usize
+fn add_row<'a>(
+    rows: &'a [u64; STRIPE_NUMBERS],
+    i: usize,
+    links: &'a mut [u64; LINK_NUMBERS],
+    k: usize,
+) -> usize
     requires { ⌜ SizedRows (now rows) ⌝ }
     requires { ⌜ SizedLinks (now links) ⌝ }
-    requires { ⌜ (i < stripesAlong) × (k < stripesAlong) ⌝ }
+    requires { ⌜ (i < edgeStripes) × (k < edgeStripes) ⌝ }
     ensures { λ r. ⌜ (r ≤ k + 1) × SizedLinks (now (links .exit)) ⌝ }
     ensures { λ r. ⌜ Grown (now (links .exit)) r (now (links .entry)) k (stripeAt (now (rows .entry)) i) ⌝ }
 {
@@ -96,11 +111,15 @@ fn add_row<'a>(rows: &'a [u64; 60], i: usize, links: &'a mut [u64; 40], k: usize
 }
 
 // Gathers the links among the first count rows, and answers how many it keeps.
-pub(crate) fn gather<'a>(rows: &'a [u64; 60], count: usize, links: &'a mut [u64; 40]) -> usize
+pub(crate) fn gather<'a>(
+    rows: &'a [u64; STRIPE_NUMBERS],
+    count: usize,
+    links: &'a mut [u64; LINK_NUMBERS],
+) -> usize
     requires { ⌜ SizedRows (now rows) ⌝ }
     requires { ⌜ SizedLinks (now links) ⌝ }
-    requires { ⌜ count ≤ stripesAlong ⌝ }
-    ensures { λ r. ⌜ Gathered (now (links .exit)) r (now (rows .entry)) count × SizedLinks (now (links .exit)) × (r ≤ stripesAlong) ⌝ }
+    requires { ⌜ count ≤ edgeStripes ⌝ }
+    ensures { λ r. ⌜ Gathered (now (links .exit)) r (now (rows .entry)) count × SizedLinks (now (links .exit)) × (r ≤ edgeStripes) ⌝ }
 {
     let mut k = 0;
     let mut i = 0;
@@ -112,8 +131,8 @@ pub(crate) fn gather<'a>(rows: &'a [u64; 60], count: usize, links: &'a mut [u64;
 }
 
 // Whether the i-th link replaces the goal's y or z.
-pub(crate) fn touches(links: &[u64; 40], i: usize, y: u64, z: u64) -> bool
-    requires { ⌜ i < stripesAlong ⌝ }
+pub(crate) fn touches(links: &[u64; LINK_NUMBERS], i: usize, y: u64, z: u64) -> bool
+    requires { ⌜ i < edgeStripes ⌝ }
     ensures { λ r. ⌜ r ≡ Goal.replaces (linkAt (now (links .entry)) i) y z ⌝ }
 {
     let v = links[i * 4];

@@ -1,10 +1,11 @@
 // The stripes along an edge as rows of six numbers.
+use crate::sizes::STRIPE_NUMBERS;
 use model::claims::Stripe;
 ghost use mathlib.Core.Path.{_≡_};
 ghost use Prim.Native.Nat.{_≤_, _<_};
 ghost use Rattle.model.specs.Follows;
 ghost use Rattle.model.specs.Transfer.{stripe};
-ghost use Rattle.goals.specs.Sizes.{stripesAlong, Small, Room};
+ghost use Rattle.goals.specs.Sizes.{edgeStripes, Small, Room};
 ghost use Rattle.goals.specs.Rows.{SizedRows, stripeAt, withRow};
 ghost use Rattle.goals.specs.Goal;
 
@@ -16,9 +17,9 @@ pub fn wide(v: u8) -> u64
 }
 
 // Writes the i-th row.
-pub fn write_row(rows: &mut [u64; 60], i: usize, s: Stripe)
+pub fn write_row(rows: &mut [u64; STRIPE_NUMBERS], i: usize, s: Stripe)
     requires { ⌜ SizedRows (now rows) ⌝ }
-    requires { ⌜ (i < stripesAlong) × Small s ⌝ }
+    requires { ⌜ (i < edgeStripes) × Small s ⌝ }
     ensures { λ r. ⌜ (now (rows .exit) ≡ withRow (now (rows .entry)) i s) × SizedRows (now (rows .exit)) ⌝ }
 {
     let x = wide(s.x);
@@ -35,9 +36,18 @@ pub fn write_row(rows: &mut [u64; 60], i: usize, s: Stripe)
 }
 
 // Whether the i-th row stands for the goal.
-fn covers(rows: &[u64; 60], i: usize, x: u64, a: u8, y: u64, z: u64, plus: u64, minus: u64) -> bool
+fn covers(
+    rows: &[u64; STRIPE_NUMBERS],
+    i: usize,
+    x: u64,
+    a: u8,
+    y: u64,
+    z: u64,
+    plus: u64,
+    minus: u64,
+) -> bool
     requires { ⌜ SizedRows (now rows) ⌝ }
-    requires { ⌜ i < stripesAlong ⌝ }
+    requires { ⌜ i < edgeStripes ⌝ }
     requires { ⌜ Room 0 (stripe x a y z plus minus) ⌝ }
     ensures { λ r. ⌜ r ≡ Follows.covers (stripeAt (now (rows .entry)) i) (stripe x a y z plus minus) ⌝ }
 {
@@ -54,7 +64,7 @@ fn covers(rows: &[u64; 60], i: usize, x: u64, a: u8, y: u64, z: u64, plus: u64, 
 
 // Whether one of the first count rows stands for the goal.
 pub(crate) fn stands(
-    rows: &[u64; 60],
+    rows: &[u64; STRIPE_NUMBERS],
     count: usize,
     x: u64,
     a: u8,
@@ -64,7 +74,7 @@ pub(crate) fn stands(
     minus: u64,
 ) -> bool
     requires { ⌜ SizedRows (now rows) ⌝ }
-    requires { ⌜ count ≤ stripesAlong ⌝ }
+    requires { ⌜ count ≤ edgeStripes ⌝ }
     requires { ⌜ Room 0 (stripe x a y z plus minus) ⌝ }
     ensures { λ r. ⌜ r ≡ Goal.stands (now (rows .entry)) count (stripe x a y z plus minus) ⌝ }
 {

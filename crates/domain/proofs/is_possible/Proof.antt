@@ -9,6 +9,7 @@ use Prim.Native.Nat.{ℕ, _-_, _≤_}
 use native.Mathlib.Numerals.{add-one}
 use native.Mathlib.Omega.{arith}
 use lib.ListN.{length}
+use Rattle.model.specs.Limits as Limits
 use Rattle.model.specs.Lists.{everyBelow}
 use Rattle.model.specs.Facts.{lo, hi, nonEmpty}
 use Rattle.domain.proofs.Held.{low-held, high-held}
@@ -20,10 +21,10 @@ abbrev hasValue : List ℕ → List ℕ → ℕ → Bool
 hasValue low high v = leb (lo (rangesOf low high) v) (hi (rangesOf low high) v)
 
 abbrev Inv-loop : tie.InvT-loop
-Inv-loop low high every₀ v₀ every v = (v ≤ 18) × (every ≡ everyBelow (hasValue low high) v)
+Inv-loop low high every₀ v₀ every v = (v ≤ Limits.variables) × (every ≡ everyBelow (hasValue low high) v)
 
 abbrev μ-loop : tie.MeasureT-loop
-μ-loop low high every₀ v₀ every v = 18 - v
+μ-loop low high every₀ v₀ every v = Limits.variables - v
 
 loop-holds : tie.Need-loop-holds Inv-loop μ-loop
 unfolding everyBelow
@@ -60,7 +61,7 @@ returns : tie.Need-returns Inv-loop μ-loop
 unfolding nonEmpty
 returns c =
     let a = c .before .before .args in
-    let done : c .before .loop .v ≡ 18 = omega arith in
+    let done : c .before .loop .v ≡ Limits.variables = omega arith in
     c .before .loop .inv .1 ∙ ap (everyBelow (hasValue (a .low .now) (a .high .now))) done
 
 pub is-possible-spec : {M : Type 1} → statement M

@@ -2,11 +2,12 @@
 use borrow.Author.Needs.{needs}
 use mathlib.Core.Path.{ap, _∙_}
 use mathlib.Core.List.{List}
-use Prim.Native.Nat.{_<_}
+use Prim.Native.Nat.{_+_, _<_}
 use native.Mathlib.Omega.{arith}
 use lib.ListN.{length}
 use Rattle.model.specs.declared.claims.Range.{Range}
-use Rattle.model.specs.Transfer.{operandRange}
+use Rattle.model.specs.Facts.{rangeOf}
+use Rattle.model.specs.Transfer.{atLeast}
 use Rattle.domain.specs.Known.{rangesOf}
 use Rattle.domain.proofs.Held.{ranges-long}
 use Rattle.domain.proofs.Points.{ends-even}
@@ -22,45 +23,30 @@ operand-range-requires c κs = search needs
 below-requires : tie.Need-below-requires
 below-requires c κs = search needs
 
-enum-known-o : tie.Need-enum-known-o
-enum-known-o c = search needs
+operand-after-requires : tie.Need-operand-after-requires
+operand-after-requires c κs = search needs
 
 add-at-least : tie.Need-add-at-least
 add-at-least c = search needs
 
-range-after-requires : tie.Need-range-after-requires
-range-after-requires c κs = search needs
-
 at-least-requires : tie.Need-at-least-requires
 at-least-requires c κs = search needs
 
-enum-known-o-2 : tie.Need-enum-known-o-2
-enum-known-o-2 c = search needs
-
-one-requires : tie.Need-one-requires
-one-requires c κs = search needs
+both-requires : tie.Need-both-requires
+both-requires c κs = search needs
 
 returns : tie.Need-returns
 returns c =
-    let start = c .before .before .before .before .before .before .before .before .before in
+    let start = c .before .before .before .before .before .before .before in
     let a = start .args in
     let rs : List Range = rangesOf (a .low .now) (a .high .now) in
     let even = ends-even (a .low .now) (a .high .now) (start .pre .0) in
     let inside : a .i < length rs = rw (ranges-long (a .low .now) (a .high .now) even) (omega (arith, start .pre .0 .lows .long)) in
-    let told = c .before .before .before .before .o .given .1 in
-    let read = c .before .before .before .before .before .before .before .operand-range .ensures .0 in
-    record {
-      same = rw (c .at-least .ensures, c .before .range-after .ensures rs inside (read ∙ ap (operandRange rs) told), c .before .before .before .before .before .before .below .ensures, read, c .before .before .before .before .before .before .before .before .range-at .ensures .0, told);
-      first = start .pre .1 .0;
-      second = rw told at (start .pre .1 .1);
-    }
-
-returns-2 : tie.Need-returns-2
-returns-2 c =
-    let a = c .before .before .before .before .before .before .before .args in
-    let rs : List Range = rangesOf (a .low .now) (a .high .now) in
-    let told = c .before .before .o2 .given .1 in
-    rw told (rw (c .before .before .before .before .below .ensures, c .before .before .before .before .before .operand-range .ensures .0, c .before .before .before .before .before .before .range-at .ensures .0, told) at (c .one .ensures rs))
+    let own = c .before .before .before .before .before .before .range-at .ensures .0 in
+    let read = c .before .before .before .before .before .operand-range .ensures .0 in
+    let after = c .before .before .before .operand-after .ensures rs inside read in
+    let second = c .before .at-least .ensures ∙ ap (λ (r : Range). atLeast (r .lo + 1) (c .before .before .before .operand-after .result)) own ∙ ap (atLeast (rangeOf rs (a .i) .lo + 1)) after in
+    rw (c .before .before .before .before .below .ensures, read, own) at (c .both .ensures rs (atLeast (rangeOf rs (a .i) .lo + 1)) second)
 
 pub less-ranges-spec : {M : Type 1} → statement M
 less-ranges-spec =
@@ -69,11 +55,8 @@ less-ranges-spec =
     range-at-requires
     operand-range-requires
     below-requires
-    enum-known-o
+    operand-after-requires
     add-at-least
-    range-after-requires
     at-least-requires
-    enum-known-o-2
-    one-requires
-    returns
-    returns-2)
+    both-requires
+    returns)

@@ -11,6 +11,9 @@ use Rattle.domain.specs.Known.{Small}
 use Rattle.domain.proofs.stripes.scaled_stripes.Statement.{statement}
 use Rattle.domain.proofs.stripes.scaled_stripes.Tie as tie
 
+cast-if1 : tie.Need-cast-if1
+cast-if1 c = search needs
+
 cast-stripe : tie.Need-cast-stripe
 cast-stripe c =
     let a = c .before .args in
@@ -36,6 +39,7 @@ pub scaled-stripes-spec : {M : Type 1} → statement M
 scaled-stripes-spec =
     tie.close
     (tie.spec
+    cast-if1
     cast-stripe
     stripe-requires
     one-and-dropped-requires
