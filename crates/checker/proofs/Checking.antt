@@ -7,51 +7,55 @@ use lib.ListN.{length}
 use Rattle.model.specs.declared.answers.Refusal.{Refusal}
 use Rattle.model.specs.declared.answers.Judgement.{Judgement}
 use Rattle.model.specs.declared.answers.Judgement.the-variants.{Accepted, Refused as refused}
-use Rattle.model.specs.declared.answers.Verdict.the-variants.{Passed, Refused as turnedBack}
-use Rattle.model.specs.Listing.{readAs, unreadable, listingOf, pointsOf}
+use Rattle.model.specs.declared.answers.Verdict.the-variants.{Passed, Refused as refusedVerdict}
+use Rattle.model.specs.Listing.{readAs, refusedListing, listingOf, pointsOf}
 use Rattle.model.specs.Listing as model
 use Rattle.model.specs.Check.{pointsJudged, listingJudged, verdictFrom, verdictOf, check}
 use Rattle.reader.specs.declared.listing.Listing.{Listing}
+use Rattle.reader.specs.Points.{pointsIn}
 use Rattle.reader.specs.Listing.{Stands}
-use Rattle.checker.specs.Judged.{Standing, Judged}
+use Rattle.reader.proofs.Points.{points-count}
+use Rattle.checker.specs.Judged.{Held, Judged}
 
-module _ (s : List ℕ) (l : Listing) (rows at : List ℕ) (stands : Stands s (listingOf s) l rows at) where
-  pub is-read : l .judgement ≡ Accepted → Standing s l rows at
+module _ (s : List ℕ) (l : Listing) (rows at : List ℕ) (stands : Stands (listingOf s) l rows at) where
+  pub is-read : l .judgement ≡ Accepted → Held s rows at (l .count)
   is-read e = go (listingOf s) refl stands
     where
-      go : (x : model.Listing) → listingOf s ≡ x → Stands s x l rows at → Standing s l rows at
-      go (readAs ps) q h = record { points = rw q refl; held = rw (h .1) (h .2); count = rw q (h .1) }
-      go (unreadable x) q h = let z : _≡_ {A = ℕ} 0 1 = cc in absurd (omega arith)
+      go : (x : model.Listing) → listingOf s ≡ x → Stands x l rows at → Held s rows at (l .count)
+      go (readAs ps) q h = record { points = q ∙ ap readAs (sym (h .1)); holds = h .2 }
+      go (refusedListing x) q h = let z : _≡_ {A = ℕ} 0 1 = cc in absurd (omega arith)
 
   -- a listing that is turned back while it is read stays so
-  pub judged-unreadable : (r : Refusal) → l .judgement ≡ refused r → Judged s l rows at
-  judged-unreadable r e = record { judgement = go (listingOf s) stands; standing = is-read }
+  pub judged-refusedListing : (r : Refusal) → l .judgement ≡ refused r → Judged s l rows at
+  judged-refusedListing r e = record { judgement = go (listingOf s) stands; held = is-read }
     where
-      go : (x : model.Listing) → Stands s x l rows at → l .judgement ≡ listingJudged x
+      go : (x : model.Listing) → Stands x l rows at → l .judgement ≡ listingJudged x
       go (readAs ps) h = let w = h .0 in let z : _≡_ {A = ℕ} 0 1 = cc in absurd (omega arith)
-      go (unreadable x) h = h
+      go (refusedListing x) h = h
 
   -- a listing that is read is judged by its points
-  pub judged-read : l .judgement ≡ Accepted → (j : Judgement) → j ≡ pointsJudged (pointsOf (listingOf s)) (l .count) → Judged s (record { judgement = j; count = l .count }) rows at
+  pub judged-read : l .judgement ≡ Accepted → (j : Judgement) → j ≡ pointsJudged (pointsIn rows at (l .count)) (l .count) → Judged s (record { judgement = j; count = l .count }) rows at
   judged-read e j k =
       let r = is-read e in
       record {
-        judgement = k ∙ ap (pointsJudged (pointsOf (listingOf s))) (r .count) ∙ sym (ap listingJudged (r .points));
-        standing = λ z. record { points = r .points; held = r .held; count = r .count };
+        judgement = k ∙ ap (pointsJudged (pointsIn rows at (l .count))) (sym (points-count rows at (l .count))) ∙ sym (ap listingJudged (r .points));
+        held = λ z. r;
       }
 
 -- the answer from the judgement
 answered : (x : model.Listing) → verdictOf x ≡ verdictFrom (length (pointsOf x)) (listingJudged x)
 answered (readAs ps) = refl
-answered (unreadable r) = refl
+answered (refusedListing r) = refl
 
 check-is : (s : List ℕ) → check s ≡ verdictFrom (length (pointsOf (listingOf s))) (listingJudged (listingOf s))
 unfolding check
 check-is s = answered (listingOf s)
 
 module _ (s : List ℕ) (l : Listing) (rows at : List ℕ) (judged : Judged s l rows at) where
-  pub check-refused : (r : Refusal) → l .judgement ≡ refused r → turnedBack r ≡ check s
+  pub check-refused : (r : Refusal) → l .judgement ≡ refused r → refusedVerdict r ≡ check s
   check-refused r e = sym (check-is s ∙ ap (verdictFrom (length (pointsOf (listingOf s)))) (sym (judged .judgement) ∙ e))
 
   pub check-passed : l .judgement ≡ Accepted → Passed (l .count) ≡ check s
-  check-passed e = sym (check-is s ∙ ap₂ verdictFrom (sym (judged .standing e .count)) (sym (judged .judgement) ∙ e))
+  check-passed e =
+      let count = ap (λ (x : model.Listing). length (pointsOf x)) (judged .held e .points) ∙ points-count rows at (l .count) in
+      sym (check-is s ∙ ap₂ verdictFrom count (sym (judged .judgement) ∙ e))

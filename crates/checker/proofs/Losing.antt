@@ -1,20 +1,26 @@
--- The first claim that does not follow, found line by line, is the model's. Assumes nothing.
-use mathlib.Core.Path.{_≡_, refl, sym, ap}
+-- The first claim that does not follow, found row by row. Assumes nothing.
+use mathlib.Core.Path.{_≡_, sym, ap, _∙_}
 use mathlib.Core.Bool.{Bool, true, false, cond}
 use mathlib.Core.List.{List, [], _∷_, _++_}
-use Prim.Native.Nat.{ℕ, zero, suc, _+_, _≤_}
+use Prim.Native.Nat.{ℕ, zero, suc, _+_, _-_, _≤_, _<_}
 use native.Mathlib.Nat.{add-zero}
 use native.Mathlib.Omega.{arith}
-use lib.ListN.{length, length-append}
+use lib.ListN.{length}
 use lib.Dec.{eqb}
-use borrow.Author.Tests.{ne-eqb}
+use borrow.Author.Tests.{eq-eqb, ne-eqb}
 use Rattle.model.specs.declared.claims.Claim.{Claim}
-use Rattle.model.specs.declared.claims.Line.{Line}
-use Rattle.model.specs.declared.claims.Line.the-variants.{Refused as refusedLine, Claim as claimLine, Instruction as instructionLine}
+use Rattle.model.specs.declared.answers.Refusal.the-variants.{ClaimMayFail}
+use Rattle.model.specs.declared.answers.Judgement.the-variants.{Accepted, Refused as refused}
 use Rattle.model.specs.Facts.{Facts}
-use Rattle.model.specs.Follows.{claimFollows, firstLost}
-use Rattle.reader.specs.Scan.{lineRead, claimOn, claimsIn}
-use Rattle.checker.specs.Lost.{lostOn, lostTo}
+use Rattle.model.specs.Transfer.{possible}
+use Rattle.model.specs.Follows.{claimFollows, firstLost, lostAlong}
+use Rattle.model.specs.Listing.{firstLine}
+use Rattle.model.specs.Check.{claimsJudged}
+use Rattle.decoded.specs.Rows.{rowAt}
+use Rattle.decoded.specs.Decoded.{claimFrom, claimsFrom}
+use Rattle.decoded.proofs.Claims.{claims-none, claims-next, claims-count}
+use Rattle.reader.specs.Points.{lineIn, numberIn, firstIn, pointIn}
+use Rattle.reader.proofs.Points.{first-line}
 
 -- one claim more at the end
 first-snoc : (f : Facts) (m : ℕ) (cs : List Claim) (c : Claim) → 1 ≤ m → firstLost f m (cs ++ (c ∷ [])) ≡ cond (eqb (firstLost f m cs) 0) (cond (claimFollows f c) 0 (m + length cs)) (firstLost f m cs)
@@ -30,39 +36,59 @@ first-snoc f m (b ∷ cs) c h = go (claimFollows f b) (first-snoc f (m + 1) cs c
     go true e = rw shift at e
     go false e = rw (ne-eqb m 0 (λ z. omega arith))
 
-module _ (s : List ℕ) (f : Facts) (from : ℕ) where
-  claims-few : (n : ℕ) → length (claimsIn s from n) ≤ n
-  unfolding claimsIn
-  claims-few zero = omega arith
-  claims-few (suc n) = go (lineRead s (from + n)) (claims-few n)
-    where
-      go : (l : Line) → length (claimsIn s from n) ≤ n → length (claimsIn s from n ++ claimOn l) ≤ suc n
-      go (refusedLine r) h = rw (length-append (claimsIn s from n) []) (omega arith)
-      go (claimLine c) h = rw (length-append (claimsIn s from n) (c ∷ [])) (omega arith)
-      go (instructionLine i) h = rw (length-append (claimsIn s from n) []) (omega arith)
+module _ (rows : List ℕ) (f : Facts) (from : ℕ) where
+  -- what is lost among n rows
+  abbrev lost : ℕ → ℕ
+  lost n = firstLost f (from + 1) (claimsFrom rows from n)
 
-  -- where every line holds a claim, the line is the claim's
-  pub lost-same : (n : ℕ) → length (claimsIn s from n) ≡ n → lostTo s f from n ≡ firstLost f (from + 1) (claimsIn s from n)
-  unfolding lostTo claimsIn firstLost
-  lost-same zero e = refl
-  lost-same (suc n) e = go (lineRead s (from + n)) (lost-same n) e
-    where
-      go : (l : Line) → (length (claimsIn s from n) ≡ n → lostTo s f from n ≡ firstLost f (from + 1) (claimsIn s from n)) → length (claimsIn s from n ++ claimOn l) ≡ suc n → cond (eqb (lostTo s f from n) 0) (lostOn f (from + n + 1) l) (lostTo s f from n) ≡ firstLost f (from + 1) (claimsIn s from n ++ claimOn l)
-      go (refusedLine r) same k = absurd (omega (arith, claims-few n, length-append (claimsIn s from n) [], k))
-      go (instructionLine i) same k = absurd (omega (arith, claims-few n, length-append (claimsIn s from n) [], k))
-      go (claimLine c) same k =
-          let long : length (claimsIn s from n) ≡ n = omega (arith, length-append (claimsIn s from n) (c ∷ [])) in
-          let place : from + n + 1 ≡ from + 1 + length (claimsIn s from n) = omega arith in
-          rw (same long, place) (sym (first-snoc f (from + 1) (claimsIn s from n) c (omega arith)))
+  pub lost-none : lost 0 ≡ 0
+  unfolding firstLost
+  lost-none = ap (firstLost f (from + 1)) (claims-none rows from)
 
-  -- what is lost stays lost
-  pub lost-stays : (n k : ℕ) → (lostTo s f from n ≡ 0 → ⊥) → lostTo s f from (n + k) ≡ lostTo s f from n
-  unfolding lostTo
-  lost-stays n zero h = ap (lostTo s f from) (add-zero n)
-  lost-stays n (suc k) h = go (lost-stays n k h)
-    where
-      more : n + suc k ≡ suc (n + k)
-      more = omega arith
+  lost-next : (n : ℕ) → lost (suc n) ≡ cond (eqb (lost n) 0) (cond (claimFollows f (claimFrom (rowAt rows (from + n)))) 0 (from + n + 1)) (lost n)
+  lost-next n =
+      let place : from + 1 + length (claimsFrom rows from n) ≡ from + n + 1 = omega (arith, claims-count rows from n) in
+      ap (firstLost f (from + 1)) (claims-next rows from n) ∙ first-snoc f (from + 1) (claimsFrom rows from n) (claimFrom (rowAt rows (from + n))) (omega arith) ∙ rw place
 
-      go : lostTo s f from (n + k) ≡ lostTo s f from n → lostTo s f from (n + suc k) ≡ lostTo s f from n
-      go e = rw (more, e, ne-eqb (lostTo s f from n) 0 h)
+  module _ (n : ℕ) (c : Claim) (is : c ≡ claimFrom (rowAt rows (from + n))) (none : lost n ≡ 0) where
+    -- after rows of which none is lost, the next one tells
+    pub lost-kept : claimFollows f c ≡ true → lost (suc n) ≡ 0
+    lost-kept e = lost-next n ∙ rw (none, ← is, e)
+
+    lost-here : claimFollows f c ≡ false → lost (suc n) ≡ from + n + 1
+    lost-here e = lost-next n ∙ rw (none, ← is, e)
+
+    -- what is lost stays lost
+    lost-stays : claimFollows f c ≡ false → (k : ℕ) → lost (suc n + k) ≡ from + n + 1
+    lost-stays e zero = ap lost (add-zero (suc n)) ∙ lost-here e
+    lost-stays e (suc k) = go (lost-stays e k)
+      where
+        more : suc n + suc k ≡ suc (suc n + k)
+        more = omega arith
+
+        go : lost (suc n + k) ≡ from + n + 1 → lost (suc n + suc k) ≡ from + n + 1
+        go h = ap lost more ∙ lost-next (suc n + k) ∙ rw (h, ne-eqb (from + n + 1) 0 (λ z. omega arith))
+
+    pub lost-first : (m : ℕ) → n < m → claimFollows f c ≡ false → from + n + 1 ≡ lost m
+    lost-first m h e =
+        let whole : suc n + (m - suc n) ≡ m = omega arith in
+        sym (lost-stays e (m - suc n)) ∙ ap lost whole
+
+-- the three answers for an edge to point t along which g is known, where g is h
+module _ (l : ℕ) (rows at : List ℕ) (t : ℕ) (g h : Facts) (same : g ≡ h) where
+  along-is : numberIn at t < lineIn at t → lostAlong h (firstLine (pointIn rows at t)) (pointIn rows at t .claims) ≡ cond (possible g) (firstLost g (firstIn at t + 1) (pointIn rows at t .claims)) 0
+  unfolding lostAlong
+  along-is b =
+      let line : firstLine (pointIn rows at t) ≡ firstIn at t + 1 = first-line rows at t ∙ omega arith in
+      rw (line, ← same)
+
+  module _ (b : numberIn at t < lineIn at t) (lost : ℕ) (e : lost ≡ firstLost g (firstIn at t + 1) (claimsFrom rows (firstIn at t) (numberIn at t))) where
+    pub edge-kept : possible g ≡ true → lost ≡ 0 → Accepted ≡ claimsJudged l h (pointIn rows at t)
+    edge-kept p z = rw (along-is b, p, ← e, eq-eqb lost 0 z)
+
+    pub edge-refused : possible g ≡ true → (lost ≡ 0 → ⊥) → refused (ClaimMayFail l lost) ≡ claimsJudged l h (pointIn rows at t)
+    edge-refused p z = rw (along-is b, p, ← e, ne-eqb lost 0 z)
+
+  pub edge-impossible : possible g ≡ false → Accepted ≡ claimsJudged l h (pointIn rows at t)
+  unfolding lostAlong
+  edge-impossible p = rw (← same, p)

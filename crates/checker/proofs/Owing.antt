@@ -1,45 +1,33 @@
--- What a point owes by the code is what it owes by the model. Assumes nothing.
-use mathlib.Core.Path.{_≡_, refl, sym, ap, ap₂, subst, _∙_}
+-- What a point owes, over the points that rows and places hold. Assumes nothing.
+use mathlib.Core.Path.{_≡_, refl, sym, ap, ap₂, _∙_}
 use mathlib.Core.Bool.{Bool, true, false, cond, false≢true}
-use mathlib.Core.List.{List}
-use Prim.Native.Nat.{ℕ, suc, _+_, _-_, _/_, _<_}
+use mathlib.Core.List.{List, [], _∷_, _++_}
+use Prim.Native.Nat.{ℕ, suc, _+_, _-_, _<_}
 use native.Mathlib.Omega.{arith}
 use native.Mathlib.Numerals.{add-one}
-use native.Mathlib.Decide.{decLt}
-use lib.ListN.{length}
-use borrow.Author.Tests.{ltb-true}
+use mathlib.Core.List.{map}
 use Rattle.model.specs.declared.machine.Instruction.{Instruction}
-use Rattle.model.specs.declared.machine.Instruction.the-variants.{Stop, Setc, Copy, Addw, Subw, Mulw, Divf, Load, Stor, Jump, Bltu, Bequ}
 use Rattle.model.specs.declared.machine.Edge.{Edge}
 use Rattle.model.specs.declared.machine.Edge.the-variants.{Next, Target}
-use Rattle.model.specs.declared.claims.Claim.{Claim}
 use Rattle.model.specs.declared.answers.Judgement.{Judgement}
 use Rattle.model.specs.declared.answers.Judgement.the-variants.{Accepted, Refused as refused}
-use Rattle.model.specs.declared.answers.Refusal.the-variants.{NoSuchTarget}
 use Rattle.model.specs.Answers.{_andThen_}
 use Rattle.model.specs.Facts.{Facts, factsOf}
-use Rattle.model.specs.Listing.{Point, pointAt, targets, goesOn, targetsExist, readAs, listingOf}
-use Rattle.model.specs.Transfer.{edges, factsAlong}
+use Rattle.model.specs.Instructions.{targets, goesOn, hasTarget}
+use Rattle.model.specs.Listing.{Point, pointAt}
+use Rattle.model.specs.Transfer.{factsAlong}
 use Rattle.model.specs.Check.{claimsJudged, edgesJudged, safetyJudged, pointJudged, pointsJudged}
-use Rattle.model.proofs.Limits.{Limited}
-use Rattle.model.proofs.Lists.{all-at}
-use Rattle.model.proofs.Steps.{targets-at}
-use Rattle.model.proofs.Reading.{both-accepted, test-passed, PointLimited, WellFormed, well-formed}
-use Rattle.reader.specs.declared.scan.Point as code
-use Rattle.reader.specs.Scan.{coded, tableTo}
-use Rattle.reader.specs.Whole.{tableAt}
-use Rattle.reader.specs.Listing.{PointLines}
-use Rattle.reader.proofs.Tables.{PointRead}
-use Rattle.reader.proofs.Listings.{Points, listing-points, point-lines}
-use Rattle.checker.specs.Points.{nextOf, targetOf, isRefused, edgeOwed, nextOwed, targetOwed, owed}
-use Rattle.checker.proofs.Edges.{edge-same}
+use Rattle.decoded.proofs.ByKind.{none-named}
+use Rattle.reader.specs.Points.{pointIn, pointsIn, Placed, Holds}
+use Rattle.reader.proofs.Points.{points-at}
+use Rattle.checker.specs.Judged.{isRefused}
 use Rattle.checker.proofs.Judging.{refused-stays}
 
-pub accepted : (j : Judgement) → isRefused j ≡ false → j ≡ Accepted
+accepted : (j : Judgement) → isRefused j ≡ false → j ≡ Accepted
 accepted Accepted e = refl
 accepted (refused r) e = absurd (false≢true (sym e))
 
-pub stays-refused : (j k : Judgement) → isRefused j ≡ true → (j andThen k) ≡ j
+stays-refused : (j k : Judgement) → isRefused j ≡ true → (j andThen k) ≡ j
 stays-refused Accepted k e = absurd (false≢true e)
 stays-refused (refused r) k e = refl
 
@@ -47,121 +35,76 @@ then-accepted : (j : Judgement) → (j andThen Accepted) ≡ j
 then-accepted Accepted = refl
 then-accepted (refused r) = refl
 
--- one edge to a point that is read
-edge-to : (s : List ℕ) (n l : ℕ) (e : Edge) (i : Instruction) (f : Facts) (q : Point) → PointRead s n q → edgeOwed s l e i f (coded q) ≡ claimsJudged l (factsAlong e i f) q
-edge-to s n l e i f q r = edge-same l (factsAlong e i f) s q (r .gathered) (let b = r .before in omega arith)
+module _ (rows at : List ℕ) (n p : ℕ) (holds : Holds rows at n) (inside : p < n) where
+  abbrev q : Point
+  q = pointIn rows at p
 
-module _ (s : List ℕ) (ps : List Point) (read : listingOf s ≡ readAs ps) where
-  abbrev known : Points s ps
-  known = listing-points s ps read
+  abbrev i : Instruction
+  i = q .instruction
 
-  formed : WellFormed ps
-  formed = well-formed s ps read
+  -- 12 and 13
+  abbrev safe : Judgement
+  safe = safetyJudged (q .line) (factsOf (q .claims)) i
 
-  module _ (p : ℕ) (inside : p < length ps) where
-    -- the points that the instruction's edges lead to exist
-    next-exists : goesOn (pointAt ps p .instruction) ≡ true → p + 1 < length ps
-    next-exists e = go (decLt (p + 1) (length ps))
-      where
-        go : Dec (p + 1 < length ps) → p + 1 < length ps
-        go (yes i) = i
-        go (no i) =
-            let last : length ps - 1 ≡ p = omega arith in
-            let end : goesOn (pointAt ps p .instruction) ≡ false = rw last at (formed .ends) in
-            absurd (false≢true (sym end ∙ e))
+  -- 14 along an edge to point t
+  abbrev edge : Edge → ℕ → Judgement
+  edge e t = claimsJudged (q .line) (factsAlong e i (factsOf (q .claims))) (pointIn rows at t)
 
-    pub next-inside : nextOf (pointAt ps p .instruction) p < length ps
-    next-inside = go (goesOn (pointAt ps p .instruction)) next-exists
-      where
-        go : (b : Bool) → (b ≡ true → p + 1 < length ps) → cond b (p + 1) p < length ps
-        go true f = f refl
-        go false f = inside
+  -- 14 along the edge to the next point, where there is one
+  abbrev next : Judgement
+  next = cond (goesOn i) (edge Next (p + 1)) Accepted
 
-    targets-of : (l : ℕ) (i : Instruction) → targetsExist (length ps) l (targets i) ≡ Accepted → targetOf i p < length ps
-    targets-of l Stop e = inside
-    targets-of l (Setc d c) e = inside
-    targets-of l (Copy d i) e = inside
-    targets-of l (Addw d i o) e = inside
-    targets-of l (Subw d i o) e = inside
-    targets-of l (Mulw d i o) e = inside
-    targets-of l (Divf d i o) e = inside
-    targets-of l (Load d w b a i k) e = inside
-    targets-of l (Stor v w a i k) e = inside
-    targets-of l (Jump t) e = ltb-true t (length ps) (test-passed _ (NoSuchTarget l) (both-accepted _ _ e .0))
-    targets-of l (Bltu i t o) e = ltb-true t (length ps) (test-passed _ (NoSuchTarget l) (both-accepted _ _ e .0))
-    targets-of l (Bequ i t o) e = ltb-true t (length ps) (test-passed _ (NoSuchTarget l) (both-accepted _ _ e .0))
+  abbrev whole : Judgement
+  whole = pointJudged (pointsIn rows at n) p q
 
-    pub target-inside : targetOf (pointAt ps p .instruction) p < length ps
-    target-inside = targets-of (pointAt ps p .line) (pointAt ps p .instruction) (targets-at (length ps) ps _ p inside (formed .targets))
+  abbrev along : List Edge → Judgement
+  along es = edgesJudged (pointsIn rows at n) p q es
 
-    in-table : (q : ℕ) → q < length ps → tableAt (tableTo s (length s / 40)) q ≡ coded (pointAt ps q)
-    in-table q h = let few = known .few in known .read .table q h (omega arith)
+  whole-is : whole ≡ (safe andThen (next andThen along (map Target (targets i))))
+  unfolding pointJudged
+  whole-is = ap (λ (j : Judgement). safe andThen j) (go (goesOn i) (holds .next p inside))
+    where
+      go : (b : Bool) → (b ≡ true → p + 1 < n) → along (cond b (Next ∷ []) [] ++ map Target (targets i)) ≡ (cond b (edge Next (p + 1)) Accepted andThen along (map Target (targets i)))
+      go true on = ap (λ (x : Point). claimsJudged (q .line) (factsAlong Next i (factsOf (q .claims))) x andThen along (map Target (targets i))) (points-at rows at n (p + 1) (on refl))
+      go false on = refl
 
-    pub lines-of : (q : ℕ) → q < length ps → PointLines s (length s / 40) (tableAt (tableTo s (length s / 40)) q)
-    lines-of q h = let few = known .few in point-lines s (length s / 40) ps (known .claims) (known .read) q h (omega arith)
+  -- what the code looks up and writes
+  module _ (line : ℕ) (f : Facts) (k : Instruction) (line-is : line ≡ q .line) (facts : f ≡ factsOf (q .claims)) (instruction : k ≡ i) (s : Judgement) (safety : s ≡ safetyJudged line f k) where
+    safe-is : s ≡ safe
+    safe-is = safety ∙ rw (line-is, facts, instruction)
 
-    pub limited-at : Limited (tableAt (tableTo s (length s / 40)) p .instruction)
-    limited-at = rw (in-table p inside) (all-at PointLimited ps _ p inside (formed .limited) .instruction)
+    edge-is : (e : Edge) (t : ℕ) → claimsJudged line (factsAlong e k f) (pointIn rows at t) ≡ edge e t
+    edge-is e t = rw (line-is, facts, instruction)
 
-    -- the edges
-    edges-same : (i : Instruction) (l : ℕ) (cs : List Claim) → (goesOn i ≡ true → p + 1 < length ps) → targetOf i p < length ps
-        → (nextOwed s l i (factsOf cs) (coded (pointAt ps (nextOf i p))) andThen targetOwed s l i (factsOf cs) (coded (pointAt ps (targetOf i p))))
-        ≡ edgesJudged ps p (record { line = l; claims = cs; instruction = i }) (edges i)
-    edges-same Stop l cs on there = refl
-    edges-same (Setc d c) l cs on there = ap (λ (j : Judgement). j andThen Accepted) (edge-to s _ l Next (Setc d c) (factsOf cs) (pointAt ps (p + 1)) (known .read .each (p + 1) (on refl)))
-    edges-same (Copy d i) l cs on there = ap (λ (j : Judgement). j andThen Accepted) (edge-to s _ l Next (Copy d i) (factsOf cs) (pointAt ps (p + 1)) (known .read .each (p + 1) (on refl)))
-    edges-same (Addw d i o) l cs on there = ap (λ (j : Judgement). j andThen Accepted) (edge-to s _ l Next (Addw d i o) (factsOf cs) (pointAt ps (p + 1)) (known .read .each (p + 1) (on refl)))
-    edges-same (Subw d i o) l cs on there = ap (λ (j : Judgement). j andThen Accepted) (edge-to s _ l Next (Subw d i o) (factsOf cs) (pointAt ps (p + 1)) (known .read .each (p + 1) (on refl)))
-    edges-same (Mulw d i o) l cs on there = ap (λ (j : Judgement). j andThen Accepted) (edge-to s _ l Next (Mulw d i o) (factsOf cs) (pointAt ps (p + 1)) (known .read .each (p + 1) (on refl)))
-    edges-same (Divf d i o) l cs on there = ap (λ (j : Judgement). j andThen Accepted) (edge-to s _ l Next (Divf d i o) (factsOf cs) (pointAt ps (p + 1)) (known .read .each (p + 1) (on refl)))
-    edges-same (Load d w b a i k) l cs on there = ap (λ (j : Judgement). j andThen Accepted) (edge-to s _ l Next (Load d w b a i k) (factsOf cs) (pointAt ps (p + 1)) (known .read .each (p + 1) (on refl)))
-    edges-same (Stor v w a i k) l cs on there = ap (λ (j : Judgement). j andThen Accepted) (edge-to s _ l Next (Stor v w a i k) (factsOf cs) (pointAt ps (p + 1)) (known .read .each (p + 1) (on refl)))
-    edges-same (Jump t) l cs on there = edge-to s _ l (Target t) (Jump t) (factsOf cs) (pointAt ps t) (known .read .each t there) ∙ sym (then-accepted _)
-    edges-same (Bltu i t o) l cs on there =
-        ap₂ (λ (j k : Judgement). j andThen k) (edge-to s _ l Next (Bltu i t o) (factsOf cs) (pointAt ps (p + 1)) (known .read .each (p + 1) (on refl)))
-        (edge-to s _ l (Target t) (Bltu i t o) (factsOf cs) (pointAt ps t) (known .read .each t there) ∙ sym (then-accepted _))
-    edges-same (Bequ i t o) l cs on there =
-        ap₂ (λ (j k : Judgement). j andThen k) (edge-to s _ l Next (Bequ i t o) (factsOf cs) (pointAt ps (p + 1)) (known .read .each (p + 1) (on refl)))
-        (edge-to s _ l (Target t) (Bequ i t o) (factsOf cs) (pointAt ps t) (known .read .each t there) ∙ sym (then-accepted _))
+    -- the next point and the target have places
+    pub next-placed : (b : Bool) → b ≡ goesOn k → b ≡ true → Placed rows at (p + 1)
+    next-placed b e on = holds .all .each (p + 1) (holds .next p inside (ap goesOn (sym instruction) ∙ sym e ∙ on))
 
-    -- everything that the point owes
-    pub point-same : owed s (tableAt (tableTo s (length s / 40)) p) (tableAt (tableTo s (length s / 40)) (nextOf (tableAt (tableTo s (length s / 40)) p .instruction) p)) (tableAt (tableTo s (length s / 40)) (targetOf (tableAt (tableTo s (length s / 40)) p .instruction) p)) ≡ pointJudged ps p (pointAt ps p)
-    unfolding pointJudged
-    point-same =
-        let q = pointAt ps p in
-        rw (in-table p inside, in-table (nextOf (q .instruction) p) next-inside, in-table (targetOf (q .instruction) p) target-inside, known .read .each p inside .gathered)
-        (ap (λ (j : Judgement). safetyJudged (q .line) (factsOf (q .claims)) (q .instruction) andThen j) (edges-same (q .instruction) (q .line) (q .claims) next-exists target-inside))
+    pub target-placed : (t : ℕ) → targets i ≡ t ∷ [] → Placed rows at t
+    target-placed t e = holds .all .each t (holds .target p t inside e)
 
-    -- the same over the points that the code looks up, with the indices as it computes them
-    abbrev table : List code.Point
-    table = tableTo s (length s / 40)
+    -- the point is turned back by its own safety
+    pub by-safety : isRefused s ≡ true → s ≡ whole
+    by-safety r = safe-is ∙ sym (whole-is ∙ stays-refused safe _ (ap isRefused (sym safe-is) ∙ r))
 
-    module _ (q : code.Point) (is : q ≡ tableAt table p) (a b : ℕ) (next : a ≡ nextOf (q .instruction) p) (target : b ≡ targetOf (q .instruction) p) where
-      at-p : q ≡ coded (pointAt ps p)
-      at-p = is ∙ in-table p inside
+    module _ (ok : isRefused s ≡ false) (b : Bool) (goes : b ≡ goesOn k) (j : Judgement) (judged : j ≡ cond b (claimsJudged line (factsAlong Next k f) (pointIn rows at (p + 1))) Accepted) where
+      next-is : j ≡ next
+      next-is = judged ∙ ap₂ (λ (x : Bool) (y : Judgement). cond x y Accepted) (goes ∙ ap goesOn instruction) (edge-is Next (p + 1))
 
-      pub a-inside : a < length ps
-      a-inside = subst (λ (x : ℕ). x < length ps) (sym (next ∙ ap (λ (r : code.Point). nextOf (r .instruction) p) at-p)) next-inside
+      rest-is : whole ≡ (j andThen along (map Target (targets i)))
+      rest-is = whole-is ∙ ap₂ (λ (x y : Judgement). x andThen (y andThen along (map Target (targets i)))) (sym safe-is ∙ accepted s ok) (sym next-is)
 
-      pub b-inside : b < length ps
-      b-inside = subst (λ (x : ℕ). x < length ps) (sym (target ∙ ap (λ (r : code.Point). targetOf (r .instruction) p) at-p)) target-inside
+      -- by the claims of the next point
+      pub by-next : isRefused j ≡ true → j ≡ whole
+      by-next r = sym (rest-is ∙ stays-refused j _ r)
 
-      module _ (x y : code.Point) (x-is : x ≡ tableAt table a) (y-is : y ≡ tableAt table b) where
-        pub lines-all : PointLines s (length s / 40) q × PointLines s (length s / 40) x × PointLines s (length s / 40) y
-        lines-all = (
-          subst (PointLines s (length s / 40)) (sym is) (lines-of p inside),
-          subst (PointLines s (length s / 40)) (sym x-is) (lines-of a a-inside),
-          subst (PointLines s (length s / 40)) (sym y-is) (lines-of b b-inside),
-        )
-
-        pub limited-in : Limited (q .instruction)
-        limited-in = subst (λ (r : code.Point). Limited (r .instruction)) (sym is) limited-at
-
-        pub owed-is : owed s q x y ≡ pointJudged ps p (pointAt ps p)
-        owed-is =
-            ap₂ (owed s q) x-is y-is ∙ ap₂ (λ (u v : ℕ). owed s q (tableAt table u) (tableAt table v)) next target
-            ∙ ap (λ (r : code.Point). owed s r (tableAt table (nextOf (r .instruction) p)) (tableAt table (targetOf (r .instruction) p))) is
-            ∙ point-same
+      -- by those of the target, or by nothing
+      pub by-target : isRefused j ≡ false → (t : ℕ) (h : Bool) → h ≡ hasTarget i → (h ≡ true → targets i ≡ t ∷ [])
+          → (x : Judgement) → x ≡ cond h (claimsJudged line (factsAlong (Target t) k f) (pointIn rows at t)) Accepted → x ≡ whole
+      by-target r t true e named x is =
+          let own = named refl in
+          is ∙ edge-is (Target t) t ∙ sym (rest-is ∙ rw (accepted j r, own) (then-accepted _ ∙ ap (λ (y : Point). claimsJudged (q .line) (factsAlong (Target t) i (factsOf (q .claims))) y) (points-at rows at n t (holds .target p t inside own))))
+      by-target r t false e named x is = is ∙ sym (rest-is ∙ rw (accepted j r, none-named (targets i) (sym e)))
 
 -- the points in order
 pub points-none : (ps : List Point) → pointsJudged ps 0 ≡ Accepted
@@ -172,12 +115,21 @@ points-next : (ps : List Point) (n : ℕ) → pointsJudged ps (suc n) ≡ (point
 unfolding pointsJudged
 points-next ps n = refl
 
-pub accepted-next : (ps : List Point) (p : ℕ) (j : Judgement) → pointsJudged ps p ≡ Accepted → j ≡ pointJudged ps p (pointAt ps p) → isRefused j ≡ false → pointsJudged ps (p + 1) ≡ Accepted
-accepted-next ps p j e k r = ap (pointsJudged ps) (add-one p) ∙ points-next ps p ∙ ap (λ (x : Judgement). x andThen pointJudged ps p (pointAt ps p)) e ∙ sym k ∙ accepted j r
+module _ (rows at : List ℕ) (n p : ℕ) (inside : p < n) (j : Judgement) (before : pointsJudged (pointsIn rows at n) p ≡ Accepted) (is : j ≡ pointJudged (pointsIn rows at n) p (pointIn rows at p)) where
+  one-more : pointsJudged (pointsIn rows at n) (suc p) ≡ j
+  one-more =
+      points-next (pointsIn rows at n) p ∙ ap (λ (x : Judgement). x andThen pointJudged (pointsIn rows at n) p (pointAt (pointsIn rows at n) p)) before
+      ∙ ap (pointJudged (pointsIn rows at n) p) (points-at rows at n p inside) ∙ sym is
 
-pub refused-all : (ps : List Point) (p n : ℕ) (j : Judgement) → pointsJudged ps p ≡ Accepted → p < n → j ≡ pointJudged ps p (pointAt ps p) → isRefused j ≡ true → j ≡ pointsJudged ps n
-refused-all ps p n Accepted e h k r = absurd (false≢true r)
-refused-all ps p n (refused x) e h k r =
-    let here : pointsJudged ps (suc p) ≡ refused x = points-next ps p ∙ ap (λ (y : Judgement). y andThen pointJudged ps p (pointAt ps p)) e ∙ sym k in
-    let rest : suc p + (n - suc p) ≡ n = omega arith in
-    sym (refused-stays ps x (suc p) (n - suc p) here) ∙ ap (pointsJudged ps) rest
+  pub accepted-next : isRefused j ≡ false → pointsJudged (pointsIn rows at n) (p + 1) ≡ Accepted
+  accepted-next r = ap (pointsJudged (pointsIn rows at n)) (add-one p) ∙ one-more ∙ accepted j r
+
+  pub refused-all : isRefused j ≡ true → j ≡ pointsJudged (pointsIn rows at n) n
+  refused-all r = go j refl r
+    where
+      rest : suc p + (n - suc p) ≡ n
+      rest = omega arith
+
+      go : (x : Judgement) → j ≡ x → isRefused x ≡ true → j ≡ pointsJudged (pointsIn rows at n) n
+      go Accepted e k = absurd (false≢true k)
+      go (refused x) e k = e ∙ sym (refused-stays (pointsIn rows at n) x (suc p) (n - suc p) (one-more ∙ e)) ∙ ap (pointsJudged (pointsIn rows at n)) rest

@@ -1,4 +1,1 @@
-pub mod Lost
-pub mod Edges
-pub mod Points
 pub mod Judged

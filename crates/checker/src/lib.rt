@@ -1,15 +1,18 @@
 // The checker: what each point owes, its answer, and the printed line.
 mod lost;
-pub mod output;
 mod points;
 mod safety;
 
-use crate::output::printed;
 use crate::points::points_judged;
 use model::answers::Judgement;
 use model::answers::Verdict;
+use output::printed::printed;
 use reader::listing::Listing;
 use reader::listing::read_listing;
+use reader::sizes::ALL_ROWS;
+use reader::sizes::PLACE_NUMBERS;
+use reader::sizes::SHORT_LISTING;
+use reader::sizes::SHORT_ROWS;
 ghost use mathlib.Core.Path.{_≡_};
 ghost use Prim.Native.Nat.{_*_, _/_, _≤_};
 ghost use lib.ListN.{length};
@@ -31,7 +34,7 @@ pub fn judged_listing(listing: &[u8], rows: &mut [u64], at: &mut [u16]) -> Listi
         Judgement::Accepted => {
             let count = l.count;
             Listing {
-                judgement: points_judged(listing, rows, at, count),
+                judgement: points_judged(rows, at, count),
                 count,
             }
         }
@@ -43,7 +46,7 @@ fn check_in(listing: &[u8], rows: &mut [u64]) -> Verdict
     requires { ⌜ (length (now listing) ≤ greatestListing → length (now listing) / lineBytes * 8 ≤ length (now rows)) ⌝ }
     ensures { λ r. ⌜ r ≡ Check.check (now (listing .entry)) ⌝ }
 {
-    let mut at = [0u16; 1026];
+    let mut at = [0u16; PLACE_NUMBERS];
     let l = judged_listing(listing, rows, &mut at);
     let j = l.judgement;
     match j {
@@ -57,11 +60,11 @@ fn check_in(listing: &[u8], rows: &mut [u64]) -> Verdict
 pub fn check(listing: &[u8]) -> Verdict
     ensures { λ r. ⌜ r ≡ Check.check (now (listing .entry)) ⌝ }
 {
-    if listing.len() <= 2560 {
-        let mut rows = [0u64; 512];
+    if listing.len() <= SHORT_LISTING {
+        let mut rows = [0u64; SHORT_ROWS];
         return check_in(listing, &mut rows);
     }
-    let mut rows = [0u64; 13104];
+    let mut rows = [0u64; ALL_ROWS];
     check_in(listing, &mut rows)
 }
 

@@ -1,104 +1,85 @@
-// Refusal 14: the claims of a target that do not follow along an edge.
-use decoded::decode::line_at;
+// Refusal 14: the claims of a point that do not follow along an edge to it.
+use decoded::decode::claim_at;
 use domain::along;
 use domain::is_possible;
 use goals::follows::claim_follows;
+use goals::sizes::STRIPE_NUMBERS;
 use model::answers::Judgement;
 use model::answers::Refusal;
-use model::claims::Line;
+use model::limits::VARIABLES;
 use model::machine::Edge;
 use model::machine::Instruction;
+use reader::places::claims_of;
+use reader::places::first_of;
 ghost use mathlib.Core.Path.{_≡_};
+ghost use mathlib.Core.Bool.{true, cond};
 ghost use Prim.Native.Nat.{_+_, _≤_};
+ghost use Rattle.model.specs.declared.answers.Judgement.the-variants.{Accepted};
 ghost use Rattle.model.specs.Facts as Model;
 ghost use Rattle.model.specs.Transfer.{factsAlong};
-ghost use Rattle.model.proofs.Limits.{Limited, LineLimited};
+ghost use Rattle.model.specs.Follows.{firstLost};
+ghost use Rattle.model.specs.Check.{claimsJudged};
+ghost use Rattle.model.specs.Limited.{Limited};
 ghost use Rattle.goals.specs.Rows.{SizedRows};
 ghost use Rattle.goals.specs.Laid.{Laid, Sized};
+ghost use Rattle.decoded.specs.Decoded.{claimsFrom};
 ghost use Rattle.domain.specs.Known.{known, AtPoint};
-ghost use Rattle.reader.specs.Kept.{Kept};
-ghost use Rattle.checker.specs.Lost.{lostOn, lostTo};
-ghost use Rattle.checker.specs.Edges.{edgeLost};
+ghost use Rattle.reader.specs.Sizes.{greatestLines};
+ghost use Rattle.reader.specs.Points.{ClaimRows, Placed, pointIn};
 
-// The line m, if it holds a claim that does not follow, else 0.
-fn lost_on<'a>(
-    high: &'a [u64; 18],
-    low: &'a [u64; 18],
-    stripes: &'a [u64; 60],
-    count: usize,
-    m: usize,
-    l: Line,
-) -> usize
-    requires { ⌜ Sized (now high) (now low) (now stripes) count ⌝ }
-    requires { ⌜ LineLimited l ⌝ }
-    ensures { λ r. ⌜ ((f : Model.Facts) → Laid (now (high .entry)) (now (low .entry)) (now (stripes .entry)) count f → r ≡ lostOn f m l) ⌝ }
-{
-    match l {
-        Line::Refused(_) => 0,
-        Line::Claim(c) => {
-            if claim_follows(high, low, stripes, count, c) {
-                return 0;
-            }
-            m
-        }
-        Line::Instruction(_) => 0,
-    }
-}
-
-// The first of n lines, from line `from` on, counted from 0, that holds a claim that does not follow; 0 for none. The answer counts from 1.
+// The line of the first of n claims, from row from on, that does not follow; 0 for none.
 fn lost_among<'a>(
-    listing: &'a [u8],
     rows: &'a [u64],
-    lines: usize,
     from: usize,
     n: usize,
-    high: &'a [u64; 18],
-    low: &'a [u64; 18],
-    stripes: &'a [u64; 60],
+    high: &'a [u64; VARIABLES],
+    low: &'a [u64; VARIABLES],
+    stripes: &'a [u64; STRIPE_NUMBERS],
     count: usize,
 ) -> usize
-    requires { ⌜ Kept (now listing) (now rows) lines × (from + n ≤ lines) × (lines ≤ 1638) ⌝ }
+    requires { ⌜ ClaimRows (now rows) from n × (from + n ≤ greatestLines) ⌝ }
     requires { ⌜ Sized (now high) (now low) (now stripes) count ⌝ }
-    ensures { λ r. ⌜ ((f : Model.Facts) → Laid (now (high .entry)) (now (low .entry)) (now (stripes .entry)) count f → r ≡ lostTo (now (listing .entry)) f from n) ⌝ }
+    ensures { λ r. ⌜ ((f : Model.Facts) → Laid (now (high .entry)) (now (low .entry)) (now (stripes .entry)) count f → r ≡ firstLost f (from + 1) (claimsFrom (now (rows .entry)) from n)) ⌝ }
 {
     let mut j = 0;
     while j < n {
         let k = from + j;
-        let l = line_at(rows, k);
-        let lost = lost_on(high, low, stripes, count, k + 1, l);
-        if lost != 0 {
-            return lost;
+        let c = claim_at(rows, k);
+        if !claim_follows(high, low, stripes, count, c) {
+            return k + 1;
         }
         j += 1;
     }
     0
 }
 
-// The judgement of an edge: the claims of its target, on n lines from line `first` on, counted from 0.
+// The judgement of an edge to point t, by the claims of that point. Where there is no such edge, nothing is owed.
 pub(crate) fn edge_judged<'a>(
-    listing: &'a [u8],
     rows: &'a [u64],
-    lines: usize,
+    at: &'a [u16],
+    there: bool,
+    t: usize,
     line: usize,
     e: Edge,
     i: Instruction,
-    low: &'a [u64; 18],
-    high: &'a [u64; 18],
-    stripes: &'a [u64; 60],
+    low: &'a [u64; VARIABLES],
+    high: &'a [u64; VARIABLES],
+    stripes: &'a [u64; STRIPE_NUMBERS],
     m: usize,
-    edge_low: &'a mut [u64; 18],
-    edge_high: &'a mut [u64; 18],
-    edge_stripes: &'a mut [u64; 60],
-    first: usize,
-    n: usize,
+    edge_low: &'a mut [u64; VARIABLES],
+    edge_high: &'a mut [u64; VARIABLES],
+    edge_stripes: &'a mut [u64; STRIPE_NUMBERS],
 ) -> Judgement
-    requires { ⌜ Kept (now listing) (now rows) lines × (first + n ≤ lines) × (lines ≤ 1638) ⌝ }
+    requires { ⌜ (there ≡ true → Placed (now rows) (now at) t) ⌝ }
     requires { ⌜ AtPoint (now low) (now high) (now stripes) m ⌝ }
     requires { ⌜ Limited i ⌝ }
     requires { ⌜ SizedRows (now «edge_stripes») ⌝ }
-    ensures { λ r. ⌜ r ≡ edgeLost line (factsAlong e i (known (now (low .entry)) (now (high .entry)) (now (stripes .entry)) m)) (now (listing .entry)) first n ⌝ }
+    ensures { λ r. ⌜ r ≡ cond there (claimsJudged line (factsAlong e i (known (now (low .entry)) (now (high .entry)) (now (stripes .entry)) m)) (pointIn (now (rows .entry)) (now (at .entry)) t)) Accepted ⌝ }
     ensures { λ r. ⌜ SizedRows (now («edge_stripes» .exit)) ⌝ }
 {
+    if !there {
+        return Judgement::Accepted;
+    }
     let count = along(
         e,
         i,
@@ -110,22 +91,14 @@ pub(crate) fn edge_judged<'a>(
         edge_high,
         edge_stripes,
     );
-    if is_possible(edge_low, edge_high) {
-        let lost = lost_among(
-            listing,
-            rows,
-            lines,
-            first,
-            n,
-            edge_high,
-            edge_low,
-            edge_stripes,
-            count,
-        );
-        if lost == 0 {
-            return Judgement::Accepted;
-        }
-        return Judgement::Refused(Refusal::ClaimMayFail { line, claim: lost });
+    if !is_possible(edge_low, edge_high) {
+        return Judgement::Accepted;
     }
-    Judgement::Accepted
+    let from = first_of(at, t);
+    let n = claims_of(at, t);
+    let lost = lost_among(rows, from, n, edge_high, edge_low, edge_stripes, count);
+    if lost == 0 {
+        return Judgement::Accepted;
+    }
+    Judgement::Refused(Refusal::ClaimMayFail { line, claim: lost })
 }

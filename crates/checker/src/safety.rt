@@ -1,25 +1,30 @@
 // Refusals 12 and 13: whether the divisor or the access of a point is safe by what is known at the point itself.
 use goals::follows::goal_follows;
+use goals::sizes::STRIPE_NUMBERS;
 use model::answers::Judgement;
 use model::answers::Refusal;
 use model::claims::Stripe;
+use model::limits::BLANK_VARIABLE;
+use model::limits::RESULTS_SIZE;
+use model::limits::TRAYS_SIZE;
+use model::limits::VARIABLES;
 use model::machine::Instruction;
 use model::machine::Operand;
 use model::machine::Table;
 use model::machine::Width;
 ghost use mathlib.Core.Path.{_≡_};
 ghost use mathlib.Core.Bool.{cond};
-ghost use Prim.Native.Nat.{_+_, _*_, _≤_};
+ghost use Prim.Native.Nat.{_+_, _*_, _≤_, _<_};
 ghost use lib.Dec.{leb};
 ghost use Rattle.model.specs.declared.answers.Judgement.the-variants.{Accepted, Refused};
 ghost use Rattle.model.specs.declared.answers.Refusal.the-variants.{DivisorMayBeZero, AccessMayLeave};
-ghost use Rattle.model.specs.Limits.{blankVariable, greatestLinks};
+ghost use Rattle.model.specs.Limits.{blankVariable, greatestLinks, variables};
 ghost use Rattle.model.specs.Facts.{lo, hi};
 ghost use Rattle.model.specs.Machine.{bytesOf, sizeVariable};
 ghost use Rattle.model.specs.Transfer.{operandRange, stripe};
 ghost use Rattle.model.specs.Follows.{follows};
 ghost use Rattle.model.specs.Check.{divisorSafe, accessSafe, safetyJudged};
-ghost use Rattle.model.proofs.Limits.{OperandLimited, AccessLimited, Limited};
+ghost use Rattle.model.specs.Limited.{OperandLimited, AccessLimited, Limited};
 ghost use Rattle.domain.specs.Known.{rangesOf, known, Ends, AtPoint};
 
 // The bytes of an access.
@@ -35,16 +40,16 @@ fn bytes(w: Width) -> u64
 
 // The variable that holds the size of a table.
 fn size_variable(b: Table) -> u8
-    ensures { λ r. ⌜ (r ≡ sizeVariable b) × (r ≤ 17) ⌝ }
+    ensures { λ r. ⌜ (r ≡ sizeVariable b) × (r < variables) ⌝ }
 {
     match b {
-        Table::Trays => 16,
-        Table::Results => 17,
+        Table::Trays => TRAYS_SIZE as u8,
+        Table::Results => RESULTS_SIZE as u8,
     }
 }
 
 // Whether the divisor is never 0.
-fn divisor_safe<'a>(low: &'a [u64; 18], high: &'a [u64; 18], o: Operand) -> bool
+fn divisor_safe<'a>(low: &'a [u64; VARIABLES], high: &'a [u64; VARIABLES], o: Operand) -> bool
     requires { ⌜ Ends (now low) (now high) ⌝ }
     requires { ⌜ OperandLimited o ⌝ }
     ensures { λ r. ⌜ r ≡ leb 1 (operandRange (rangesOf (now (low .entry)) (now (high .entry))) o .lo) ⌝ }
@@ -57,8 +62,8 @@ fn divisor_safe<'a>(low: &'a [u64; 18], high: &'a [u64; 18], o: Operand) -> bool
 
 // Whether the ranges alone keep the access inside its table.
 fn safe_by_ranges<'a>(
-    low: &'a [u64; 18],
-    high: &'a [u64; 18],
+    low: &'a [u64; VARIABLES],
+    high: &'a [u64; VARIABLES],
     b: Table,
     w: Width,
     a: usize,
@@ -77,9 +82,9 @@ fn safe_by_ranges<'a>(
 
 // Whether size - a * i >= k + w follows.
 fn safe_by_goal<'a>(
-    low: &'a [u64; 18],
-    high: &'a [u64; 18],
-    stripes: &'a [u64; 60],
+    low: &'a [u64; VARIABLES],
+    high: &'a [u64; VARIABLES],
+    stripes: &'a [u64; STRIPE_NUMBERS],
     m: usize,
     b: Table,
     w: Width,
@@ -97,7 +102,7 @@ fn safe_by_goal<'a>(
         x,
         a: a as u8,
         y: i as u8,
-        z: 18,
+        z: BLANK_VARIABLE as u8,
         plus: k as u64 + n,
         minus: 0,
     };
@@ -106,9 +111,9 @@ fn safe_by_goal<'a>(
 
 // Whether the access lies inside its table.
 fn access_safe<'a>(
-    low: &'a [u64; 18],
-    high: &'a [u64; 18],
-    stripes: &'a [u64; 60],
+    low: &'a [u64; VARIABLES],
+    high: &'a [u64; VARIABLES],
+    stripes: &'a [u64; STRIPE_NUMBERS],
     m: usize,
     b: Table,
     w: Width,
@@ -129,9 +134,9 @@ fn access_safe<'a>(
 // The judgement of a divisor.
 fn divisor_judged<'a>(
     line: usize,
-    low: &'a [u64; 18],
-    high: &'a [u64; 18],
-    stripes: &'a [u64; 60],
+    low: &'a [u64; VARIABLES],
+    high: &'a [u64; VARIABLES],
+    stripes: &'a [u64; STRIPE_NUMBERS],
     m: usize,
     o: Operand,
 ) -> Judgement
@@ -148,9 +153,9 @@ fn divisor_judged<'a>(
 // The judgement of an access.
 fn access_judged<'a>(
     line: usize,
-    low: &'a [u64; 18],
-    high: &'a [u64; 18],
-    stripes: &'a [u64; 60],
+    low: &'a [u64; VARIABLES],
+    high: &'a [u64; VARIABLES],
+    stripes: &'a [u64; STRIPE_NUMBERS],
     m: usize,
     b: Table,
     w: Width,
@@ -171,9 +176,9 @@ fn access_judged<'a>(
 // The judgement of a point's own safety.
 pub(crate) fn safety_judged<'a>(
     line: usize,
-    low: &'a [u64; 18],
-    high: &'a [u64; 18],
-    stripes: &'a [u64; 60],
+    low: &'a [u64; VARIABLES],
+    high: &'a [u64; VARIABLES],
+    stripes: &'a [u64; STRIPE_NUMBERS],
     m: usize,
     i: Instruction,
 ) -> Judgement

@@ -1,146 +1,258 @@
--- What is kept of the lines, one line at a time, and the points that it holds in the end. Assumes nothing.
-use mathlib.Core.Path.{_≡_, refl, sym, ap, _∙_}
-use mathlib.Core.List.{List}
+-- Rows and places hold what is read, one line more at a time. Assumes nothing.
+use mathlib.Core.Path.{_≡_, refl, ap, ap₂, subst, _∙_}
+use mathlib.Core.Bool.{true}
+use mathlib.Core.List.{List, [], _∷_, _++_}
 use Prim.Native.Nat.{ℕ, suc, _+_, _*_, _-_, _≤_, _<_}
+use native.Mathlib.Nat.{not-suc-le-zero}
 use native.Mathlib.Omega.{arith}
+use native.Mathlib.Numerals.{add-one}
 use native.Mathlib.Decide.{ℕ-discrete, decLe}
-use lib.ListN.{length, getD, set, length-set, replicate, getD-replicate, length-replicate, take, drop}
-use lib.Seq.{getD-set-same, getD-set-other}
-use borrow.Author.Tests.{le-leb, lt-leb}
+use lib.ListN.{length, set, length-append, length-set, take, drop, List·getD-append}
+use lib.Seq.{getD-set-same, getD-set-other, getD-at}
+use lib.Dec.{leb}
+use borrow.Author.Tests.{le-leb, lt-leb, leb-true}
 use Rattle.model.specs.declared.machine.Instruction.{Instruction}
 use Rattle.model.specs.declared.claims.Claim.{Claim}
 use Rattle.model.specs.declared.claims.Claim.the-variants.{Leas, Most, Strp}
 use Rattle.model.specs.declared.claims.Line.{Line}
 use Rattle.model.specs.declared.claims.Line.the-variants.{Refused as refusedLine, Claim as claimLine, Instruction as instructionLine}
-use Rattle.model.specs.Listing.{Point, pointAt, readTo}
+use Rattle.model.specs.declared.answers.Refusal.the-variants.{ClaimOrder}
+use Rattle.model.specs.Limits.{lineBytes, greatestPoints, greatestStripes}
+use Rattle.model.specs.Limited.{Limited, ClaimLimited, LineLimited}
 use Rattle.model.specs.Lines.{readLine}
-use Rattle.model.proofs.Limits.{LineLimited}
-use Rattle.decoded.specs.Rows.{rowAt, withRow}
+use Rattle.model.specs.Listing.{Point, lineAt, pointAt, mayFollowAll, stripesAmong, inOrder, Reading, going, refusedReading, afterLine, readTo}
+use Rattle.model.proofs.Tests.{and-right, cond-cases}
+use Rattle.model.proofs.Limited.{read-limited}
 use Rattle.decoded.specs.declared.rows.Row.{Row}
-use Rattle.decoded.specs.Decoded.{instructionFrom, lineFrom, kept}
-use Rattle.decoded.proofs.Written.{row-other, row-there}
+use Rattle.decoded.specs.Rows.{rowAt, withRow}
+use Rattle.decoded.specs.Decoded.{instructionFrom, claimFrom, claimsFrom, lineFrom, kept}
+use Rattle.decoded.proofs.Written.{row-long, row-other, row-there}
 use Rattle.decoded.proofs.Decoding.{instruction-held}
-use Rattle.reader.specs.Scan.{lineRead, sortOf, progressOf, slotOf, noPoint, tableTo, coded}
-use Rattle.reader.specs.Whole.{tableAt}
-use Rattle.reader.specs.Kept.{ReadAs, LinesKept, Kept, withPlace, pointNoted, noted, PointsPlaced, Placed, pointIn, Filled}
+use Rattle.decoded.proofs.Claims.{claim-held, claims-next, claims-kept}
 use Rattle.reader.specs.declared.read.Read.{Read}
-use Rattle.reader.specs.declared.scan.Scan.{Scan}
-use Rattle.reader.specs.declared.scan.Point as code
 use Rattle.reader.specs.declared.scan.Progress.{Progress}
-use Rattle.reader.specs.declared.scan.Progress.the-variants.{Going, Turned}
-use Rattle.reader.proofs.Tables.{LinesRead, table-long, table-next, table-aside}
+use Rattle.reader.specs.Sizes.{greatestLines, placeNumbers}
+use Rattle.reader.specs.Scan.{sortOf, progressOf, afterScan, Within}
+use Rattle.reader.specs.Points.{lineIn, numberIn, pointOn, ClaimRows, PointRows}
+use Rattle.reader.specs.Read.{ReadAs, withPlace, noted, HoldsPoint, Scanned, ScannedSo}
+use Rattle.reader.proofs.Scanning.{stripes-cons, stripes-snoc, after-same}
 
-pub kept-limited : (l : Line) → LineLimited l → LineLimited (kept l)
-kept-limited (refusedLine r) h = tt
-kept-limited (claimLine c) h = h
-kept-limited (instructionLine i) h = h
+-- the k-th line, read
+abbrev pub lineRead : List ℕ → ℕ → Line
+lineRead s k = readLine (k + 1) (lineAt s k)
 
--- one line more
-pub lines-next : (s rows : List ℕ) (n : ℕ) (r : Row) → lineFrom r ≡ kept (lineRead s n) → n * 8 + 8 ≤ length rows → LinesKept s rows n → LinesKept s (withRow rows n r) (suc n)
-lines-next s rows n r e room h k below = go (ℕ-discrete k n)
-  where
-    go : Dec (k ≡ n) → lineFrom (rowAt (withRow rows n r) k) ≡ kept (lineRead s k)
-    go (yes x) = rw (x, row-there rows n r room) e
-    go (no x) = rw (row-other rows n r k x) (h k (omega arith))
-
--- one point more
-place-next : (at : List ℕ) (pts : List code.Point) (m : ℕ) (q : code.Point) → length at ≡ 1026 → length pts ≡ 514 → m ≤ 512 → PointsPlaced at pts → PointsPlaced (withPlace at m (q .line) (q .claims)) (set pts m q)
-place-next at pts m q long many few h = record { line = λ p below. line p below (ℕ-discrete p m); claims = λ p below. claims p below (ℕ-discrete p m) }
-  where
-    there : tableAt (set pts m q) m ≡ q
-    there = getD-set-same pts m q noPoint (omega arith)
-
-    same : (p : ℕ) → (p ≡ m → ⊥) → tableAt (set pts m q) p ≡ tableAt pts p
-    same p x = getD-set-other pts m p q noPoint x
-
-    long₂ : length (set at (m * 2) (q .line)) ≡ 1026
-    long₂ = length-set at (m * 2) (q .line) ∙ long
-
-    line : (p : ℕ) → p ≤ 512 → Dec (p ≡ m) → getD (withPlace at m (q .line) (q .claims)) (p * 2) 0 ≡ tableAt (set pts m q) p .line
-    line p below (yes x) = rw (x, there) (getD-set-other (set at (m * 2) (q .line)) (m * 2 + 1) (m * 2) (q .claims) 0 (λ e. omega arith) ∙ getD-set-same at (m * 2) (q .line) 0 (omega arith))
-    line p below (no x) = rw (same p x) (getD-set-other (set at (m * 2) (q .line)) (m * 2 + 1) (p * 2) (q .claims) 0 (λ e. omega arith) ∙ getD-set-other at (m * 2) (p * 2) (q .line) 0 (λ e. x (omega arith)) ∙ h .line p below)
-
-    claims : (p : ℕ) → p ≤ 512 → Dec (p ≡ m) → getD (withPlace at m (q .line) (q .claims)) (p * 2 + 1) 0 ≡ tableAt (set pts m q) p .claims
-    claims p below (yes x) = let l = long₂ in rw (x, there) (getD-set-same (set at (m * 2) (q .line)) (m * 2 + 1) (q .claims) 0 (omega arith))
-    claims p below (no x) = rw (same p x) (getD-set-other (set at (m * 2) (q .line)) (m * 2 + 1) (p * 2 + 1) (q .claims) 0 (λ e. x (omega arith)) ∙ getD-set-other at (m * 2) (p * 2 + 1) (q .line) 0 (λ e. omega arith) ∙ h .claims p below)
-
--- places of zeros hold no point
-pub no-places : (s : List ℕ) → Placed s (replicate 1026 0) 0
-unfolding tableTo
-no-places s = record {
-  long = length-replicate {A = ℕ} 1026 0;
-  points = record {
-    line = λ p below. rw (none p below) (getD-replicate {A = ℕ} 1026 (p * 2) 0 0 (omega arith));
-    claims = λ p below. rw (none p below) (getD-replicate {A = ℕ} 1026 (p * 2 + 1) 0 0 (omega arith));
-  };
-}
-  where
-    none : (p : ℕ) → p ≤ 512 → tableAt (replicate 514 noPoint) p ≡ noPoint
-    none p below = getD-replicate 514 p noPoint noPoint (omega arith)
-
--- one line more
-module _ (s : List ℕ) (n : ℕ) (at : List ℕ) (long : length at ≡ 1026) (h : PointsPlaced at (tableTo s n)) where
-  -- a line that is no point
-  aside : slotOf (progressOf (readTo s n)) (lineRead s n) ≡ 513 → PointsPlaced at (tableTo s (suc n))
-  aside e = record {
-    line = λ i b. h .line i b ∙ ap (λ (q : code.Point). q .line) (sym (table-aside s n e i b));
-    claims = λ i b. h .claims i b ∙ ap (λ (q : code.Point). q .claims) (sym (table-aside s n e i b));
+-- what is written in row n leaves the rows before it
+module _ (rows : List ℕ) (n : ℕ) (r : Row) where
+  claims-stay : (from m : ℕ) → from + m ≤ n → ClaimRows rows from m → ClaimRows (withRow rows n r) from m
+  claims-stay from m h c = record {
+    long = rw (row-long rows n r) (c .long);
+    few = rw (claims-kept rows from n r m h) (c .few);
+    limited = λ j b. rw (row-other rows n r (from + j) (λ e. omega arith)) (c .limited j b);
   }
 
-  -- a point
-  module _ (q : Scan) (i : Instruction) (e : progressOf (readTo s n) ≡ Going q) (f : lineRead s n ≡ instructionLine i) where
-    point : Dec (q .points ≤ 512) → PointsPlaced (pointNoted at q n) (tableTo s (suc n))
-    point (yes few) =
-        rw (table-next s n, e, f, le-leb (q .points) 512 few)
-        (place-next at (tableTo s n) (q .points) (record { instruction = i; line = n + 1; claims = q .claims }) long (table-long s n) few h)
-    point (no many) =
-        let m : 512 < q .points = omega arith in
-        rw (lt-leb (q .points) 512 m) (aside (rw (e, f, lt-leb (q .points) 512 m)))
+  point-stays : (line m : ℕ) → line ≤ n → PointRows rows line m → PointRows (withRow rows n r) line m
+  point-stays line m h q =
+      let b = q .before in
+      record {
+        before = q .before;
+        last = q .last;
+        long = rw (row-long rows n r) (q .long);
+        limited = rw (row-other rows n r (line - 1) (λ e. omega arith)) (q .limited);
+        claims = claims-stay (line - m - 1) m (omega arith) (q .claims);
+      }
 
-  pub places-next : (p : Progress) → p ≡ progressOf (readTo s n) → PointsPlaced (noted at p n (sortOf (lineRead s n))) (tableTo s (suc n))
-  places-next p e = go p (sym e) (lineRead s n) refl
+  point-same : (line m : ℕ) → m < line → line ≤ n → pointOn (withRow rows n r) line m ≡ pointOn rows line m
+  point-same line m b h = rw (claims-kept rows (line - m - 1) n r m (omega arith), row-other rows n r (line - 1) (λ e. omega arith))
+
+-- one claim more
+module _ (rows : List ℕ) (n m : ℕ) (r : Row) (c : Claim) (inside : m ≤ n) (room : n * 8 + 8 ≤ length rows) (is : claimFrom r ≡ c) where
+  here : n - m + m ≡ n
+  here = omega arith
+
+  claim-there : claimFrom (rowAt (withRow rows n r) (n - m + m)) ≡ c
+  claim-there = rw (here, row-there rows n r room) is
+
+  claims-more : claimsFrom (withRow rows n r) (n - m) (suc m) ≡ claimsFrom rows (n - m) m ++ (c ∷ [])
+  claims-more = claims-next (withRow rows n r) (n - m) m ∙ ap₂ (λ (cs : List Claim) (x : Claim). cs ++ (x ∷ [])) (claims-kept rows (n - m) n r m (omega arith)) claim-there
+
+  claim-rows : ClaimRows rows (n - m) m → ClaimLimited c → stripesAmong (claimsFrom rows (n - m) m ++ (c ∷ [])) ≤ greatestStripes → ClaimRows (withRow rows n r) (n - m) (suc m)
+  claim-rows h l few = record {
+    long = rw (row-long rows n r) (omega arith);
+    few = rw claims-more few;
+    limited = λ j b. at j b (ℕ-discrete j m);
+  }
     where
-      go : (p : Progress) → progressOf (readTo s n) ≡ p → (l : Line) → lineRead s n ≡ l → PointsPlaced (noted at p n (sortOf l)) (tableTo s (suc n))
-      go (Turned r) e l f = aside (rw e)
-      go (Going q) e (refusedLine r) f = aside (rw (e, f))
-      go (Going q) e (claimLine (Leas v m)) f = aside (rw (e, f))
-      go (Going q) e (claimLine (Most v m)) f = aside (rw (e, f))
-      go (Going q) e (claimLine (Strp t)) f = aside (rw (e, f))
-      go (Going q) e (instructionLine i) f = point q i e f (decLe (q .points) 512)
+      at : (j : ℕ) → j < suc m → Dec (j ≡ m) → ClaimLimited (claimFrom (rowAt (withRow rows n r) (n - m + j)))
+      at j b (yes e) = rw (e, claim-there) l
+      at j b (no e) = rw (row-other rows n r (n - m + j) (λ x. omega arith)) (h .limited j (omega arith))
 
--- the 40 bytes that the code cuts out are the line
-pub line-read : (s : List ℕ) (k : ℕ) (x : Read) → ReadAs (readLine (k + 1) (take (k * 40 + 40 - k * 40) (drop (k * 40) s))) x → ReadAs (lineRead s k) x
+-- what is written in place m leaves every other place
+module _ (at : List ℕ) (m line number : ℕ) where
+  pub places-long : length (withPlace at m line number) ≡ length at
+  places-long = length-set (set at (m * 2) line) (m * 2 + 1) number ∙ length-set at (m * 2) line
+
+  module _ (long : length at ≡ placeNumbers) (few : m ≤ greatestPoints) where
+    line-there : lineIn (withPlace at m line number) m ≡ line
+    line-there = getD-set-other (set at (m * 2) line) (m * 2 + 1) (m * 2) number 0 (λ e. omega arith) ∙ getD-set-same at (m * 2) line 0 (omega arith)
+
+    number-there : numberIn (withPlace at m line number) m ≡ number
+    number-there = getD-set-same (set at (m * 2) line) (m * 2 + 1) number 0 (omega (arith, length-set at (m * 2) line))
+
+  line-other : (p : ℕ) → (p ≡ m → ⊥) → lineIn (withPlace at m line number) p ≡ lineIn at p
+  line-other p x = getD-set-other (set at (m * 2) line) (m * 2 + 1) (p * 2) number 0 (λ e. omega arith) ∙ getD-set-other at (m * 2) (p * 2) line 0 (λ e. x (omega arith))
+
+  number-other : (p : ℕ) → (p ≡ m → ⊥) → numberIn (withPlace at m line number) p ≡ numberIn at p
+  number-other p x = getD-set-other (set at (m * 2) line) (m * 2 + 1) (p * 2 + 1) number 0 (λ e. x (omega arith)) ∙ getD-set-other at (m * 2) (p * 2 + 1) line 0 (λ e. omega arith)
+
+-- a point that is held stays so, where its place has the same numbers
+point-later : (rows at at′ : List ℕ) (n p : ℕ) (r : Row) (q : Point) → length at′ ≡ placeNumbers → lineIn at′ p ≡ lineIn at p → numberIn at′ p ≡ numberIn at p
+    → HoldsPoint rows at n p q → HoldsPoint (withRow rows n r) at′ (suc n) p q
+point-later rows at at′ n p r q long a b h =
+    let l = h .line in
+    record {
+      placed = record { places = long; few = h .placed .few; point = rw (a, b) (point-stays rows n r (lineIn at p) (numberIn at p) (h .line) (h .placed .point)) };
+      line = rw a (omega arith);
+      is = rw (a, b) (point-same rows n r (lineIn at p) (numberIn at p) (h .placed .point .before) (h .line) ∙ h .is);
+    }
+
+module _ (rows at : List ℕ) (n : ℕ) (r : Row) (room : n * 8 + 8 ≤ length rows) (short : n < greatestLines) (long : length at ≡ placeNumbers)
+    (ps : List Point) (cs : List Claim) (h : Scanned rows at n ps cs) where
+  -- a claim more
+  claim-more : (c : Claim) → lineFrom r ≡ claimLine c → ClaimLimited c → stripesAmong (cs ++ (c ∷ [])) ≤ greatestStripes → Scanned (withRow rows n r) at (suc n) ps (cs ++ (c ∷ []))
+  claim-more c e l few =
+      let a = h .claims in
+      let more : length (cs ++ (c ∷ [])) ≡ suc (length cs) = length-append cs (c ∷ []) ∙ add-one (length cs) in
+      let from : suc n - suc (length cs) ≡ n - length cs = omega arith in
+      let is = claim-held r c e in
+      record {
+        points = let p = h .points in omega arith;
+        claims = omega arith;
+        some = λ z. omega arith;
+        waiting = rw (more, from) (claim-rows rows n (length cs) r c a room is (h .waiting) l (rw (h .gathered) few));
+        gathered = rw (more, from) (claims-more rows n (length cs) r c a room is ∙ ap (λ (x : List Claim). x ++ (c ∷ [])) (h .gathered));
+        each = λ p k b. point-later rows at at n p r (pointAt ps p) long refl refl (h .each p k b);
+      }
+
+  -- an instruction more
+  module _ (i : Instruction) (e : lineFrom r ≡ instructionLine i) (l : Limited i) where
+    abbrev q : Point
+    q = record { line = n + 1; claims = cs; instruction = i }
+
+    last : pointAt (ps ++ (q ∷ [])) (length ps) ≡ q
+    last = getD-at ps q [] _ (length ps) refl
+
+    old : (p : ℕ) → p < length ps → pointAt (ps ++ (q ∷ [])) p ≡ pointAt ps p
+    old p k = List·getD-append ps (q ∷ []) _ p k
+
+    inside : (p : ℕ) → p < length (ps ++ (q ∷ [])) → (p ≡ length ps → ⊥) → p < length ps
+    inside p k o = omega (arith, length-append ps (q ∷ []))
+
+    from : n + 1 - length cs - 1 ≡ n - length cs
+    from = omega arith
+
+    own : n + 1 - 1 ≡ n
+    own = omega arith
+
+    there : instructionFrom (rowAt (withRow rows n r) (n + 1 - 1)) ≡ i
+    there = rw (own, row-there rows n r room) (instruction-held r i e)
+
+    stay : ClaimRows (withRow rows n r) (n - length cs) (length cs)
+    stay = let a = h .claims in claims-stay rows n r (n - length cs) (length cs) (omega arith) (h .waiting)
+
+    new-rows : PointRows (withRow rows n r) (n + 1) (length cs)
+    new-rows =
+        let a = h .claims in
+        record { before = omega arith; last = omega arith; long = rw (row-long rows n r) (omega arith); limited = rw there l; claims = rw from stay }
+
+    new-point : pointOn (withRow rows n r) (n + 1) (length cs) ≡ q
+    new-point = let a = h .claims in rw (from, there, claims-kept rows (n - length cs) n r (length cs) (omega arith), h .gathered)
+
+    module _ (at′ : List ℕ) (long′ : length at′ ≡ placeNumbers) (same : (p : ℕ) → (p ≡ length ps → ⊥) → (lineIn at′ p ≡ lineIn at p) × (numberIn at′ p ≡ numberIn at p))
+        (line : length ps ≤ greatestPoints → lineIn at′ (length ps) ≡ n + 1) (number : length ps ≤ greatestPoints → numberIn at′ (length ps) ≡ length cs) where
+      new-held : length ps ≤ greatestPoints → HoldsPoint (withRow rows n r) at′ (suc n) (length ps) q
+      new-held few =
+          record {
+            placed = record { places = long′; few = few; point = rw (line few, number few) new-rows };
+            line = rw (line few) (omega arith);
+            is = rw (line few, number few) new-point;
+          }
+
+      held : (p : ℕ) → p < length (ps ++ (q ∷ [])) → p ≤ greatestPoints → Dec (p ≡ length ps) → HoldsPoint (withRow rows n r) at′ (suc n) p (pointAt (ps ++ (q ∷ [])) p)
+      held p k b (yes x) = rw (x, last) (new-held (rw x at b))
+      held p k b (no x) = rw (old p (inside p k x)) (point-later rows at at′ n p r (pointAt ps p) long′ (same p x .0) (same p x .1) (h .each p (inside p k x) b))
+
+      point-more : Scanned (withRow rows n r) at′ (suc n) (ps ++ (q ∷ [])) []
+      unfolding claimsFrom
+      point-more = record {
+        points = let p = h .points in omega (arith, length-append ps (q ∷ []));
+        claims = omega arith;
+        some = λ z. omega (arith, length-append ps (q ∷ []));
+        waiting = record { long = rw (row-long rows n r) (omega arith); few = omega arith; limited = λ j b. absurd (not-suc-le-zero b) };
+        gathered = refl;
+        each = λ p k b. held p k b (ℕ-discrete p (length ps));
+      }
+
+    point-noted : Dec (length ps ≤ greatestPoints) → Scanned (withRow rows n r) (noted at (progressOf (going ps cs)) n (sortOf (instructionLine i))) (suc n) (ps ++ (q ∷ [])) []
+    point-noted (yes few) =
+        rw (le-leb (length ps) greatestPoints few)
+        (point-more (withPlace at (length ps) (n + 1) (length cs)) (places-long at (length ps) (n + 1) (length cs) ∙ long)
+        (λ p x. (line-other at (length ps) (n + 1) (length cs) p x, number-other at (length ps) (n + 1) (length cs) p x))
+        (λ z. line-there at (length ps) (n + 1) (length cs) long few) (λ z. number-there at (length ps) (n + 1) (length cs) long few))
+    point-noted (no many) =
+        let more : greatestPoints < length ps = omega arith in
+        rw (lt-leb (length ps) greatestPoints more) (point-more at long (λ p x. (refl, refl)) (λ z. absurd (many z)) (λ z. absurd (many z)))
+
+-- one line more
+pub scanned-next : (rows at : List ℕ) (n : ℕ) (x : Reading) (l : Line) (r : Row) → lineFrom r ≡ kept l → LineLimited l → n * 8 + 8 ≤ length rows → n < greatestLines → length at ≡ placeNumbers
+    → ScannedSo rows at n x → ScannedSo (withRow rows n r) (noted at (progressOf x) n (sortOf l)) (suc n) (afterLine x n l)
+scanned-next rows at n (refusedReading x) l r e t room short long h = tt
+scanned-next rows at n (going ps cs) (refusedLine x) r e t room short long h = tt
+scanned-next rows at n (going ps cs) (claimLine c) r e t room short long h =
+    cond-cases (ScannedSo (withRow rows n r) (noted at (progressOf (going ps cs)) n (sortOf (claimLine c))) (suc n)) (inOrder cs c) (going ps (cs ++ (c ∷ []))) (refusedReading (ClaimOrder (n + 1)))
+    (λ z. subst (λ (a : List ℕ). Scanned (withRow rows n r) a (suc n) ps (cs ++ (c ∷ []))) (aside c) (claim-more rows at n r room short long ps cs h c e t (few z))) (λ z. tt)
+  where
+    few : inOrder cs c ≡ true → stripesAmong (cs ++ (c ∷ [])) ≤ greatestStripes
+    few z = omega (arith, leb-true (stripesAmong (c ∷ cs)) greatestStripes (and-right (mayFollowAll cs c) (leb (stripesAmong (c ∷ cs)) greatestStripes) z), stripes-cons c cs, stripes-snoc cs c)
+
+    aside : (c : Claim) → at ≡ noted at (progressOf (going ps cs)) n (sortOf (claimLine c))
+    aside (Leas v m) = refl
+    aside (Most v m) = refl
+    aside (Strp s) = refl
+scanned-next rows at n (going ps cs) (instructionLine i) r e t room short long h = point-noted rows at n r room short long ps cs h i e t (decLe (length ps) greatestPoints)
+
+-- before the first line
+pub scanned-none : (rows at : List ℕ) → Scanned rows at 0 [] []
+unfolding claimsFrom
+scanned-none rows at = record {
+  points = omega arith;
+  claims = omega arith;
+  some = λ z. absurd (not-suc-le-zero z);
+  waiting = record { long = omega arith; few = omega arith; limited = λ j b. absurd (not-suc-le-zero b) };
+  gathered = refl;
+  each = λ p k b. absurd (not-suc-le-zero k);
+}
+
+-- the counts that the code keeps
+pub within : (rows at : List ℕ) (n : ℕ) (x : Reading) → ScannedSo rows at n x → Within (progressOf x) n
+within rows at n (going ps cs) h = (h .points, h .claims, subst (λ (l : List Claim). stripesAmong l ≤ greatestStripes) (h .gathered) (h .waiting .few))
+within rows at n (refusedReading r) h = tt
+
+module _ (s : List ℕ) (n : ℕ) where
+  read-next : readTo s (suc n) ≡ afterLine (readTo s n) n (lineRead s n)
+  unfolding readTo
+  read-next = refl
+
+  pub progress-next : progressOf (readTo s (suc n)) ≡ afterScan (progressOf (readTo s n)) n (sortOf (lineRead s n))
+  progress-next = ap progressOf read-next ∙ after-same (readTo s n) n (lineRead s n)
+
+  pub lines-next : (rows at : List ℕ) (p : Progress) (r : Row) → p ≡ progressOf (readTo s n) → lineFrom r ≡ kept (lineRead s n) → n * 8 + 8 ≤ length rows → n < greatestLines → length at ≡ placeNumbers
+      → ScannedSo rows at n (readTo s n) → ScannedSo (withRow rows n r) (noted at p n (sortOf (lineRead s n))) (suc n) (readTo s (suc n))
+  lines-next rows at p r is e room short long h =
+      rw (is, read-next) (scanned-next rows at n (readTo s n) (lineRead s n) r e (read-limited (n + 1) (lineAt s n)) room short long h)
+
+-- the bytes that the code cuts out are the line
+pub line-read : (s : List ℕ) (k : ℕ) (x : Read) → ReadAs (readLine (k + 1) (take (k * lineBytes + lineBytes - k * lineBytes) (drop (k * lineBytes) s))) x → ReadAs (lineRead s k) x
 line-read s k x e = rw long at e
   where
-    long : k * 40 + 40 - k * 40 ≡ 40
+    long : k * lineBytes + lineBytes - k * lineBytes ≡ lineBytes
     long = omega arith
-
--- the points of a listing that is read
-pub filled : (s rows at : List ℕ) (lines : ℕ) (ps : List Point) (cs : List Claim) → Kept s rows lines → Placed s at lines → LinesRead s lines ps cs → length ps ≤ 512 → Filled s rows at lines (length ps)
-filled s rows at lines ps cs k pl h few = record {
-  few = few;
-  kept = k;
-  long = pl .long;
-  each = λ p below. same p below;
-  first = λ p below. let b = h .each p below .before in rw (line p below) (omega arith);
-  last = λ p below. rw (line p below) (h .each p below .line);
-}
-  where
-    there : (p : ℕ) → p < length ps → tableAt (tableTo s lines) p ≡ coded (pointAt ps p)
-    there p below = h .table p below (omega arith)
-
-    line : (p : ℕ) → p < length ps → getD at (p * 2) 0 ≡ pointAt ps p .line
-    line p below = pl .points .line p (omega arith) ∙ ap (λ (q : code.Point). q .line) (there p below)
-
-    claims : (p : ℕ) → p < length ps → getD at (p * 2 + 1) 0 ≡ length (pointAt ps p .claims)
-    claims p below = pl .points .claims p (omega arith) ∙ ap (λ (q : code.Point). q .claims) (there p below)
-
-    held : (p : ℕ) → p < length ps → instructionFrom (rowAt rows (pointAt ps p .line - 1)) ≡ pointAt ps p .instruction
-    held p below =
-        let r = h .each p below in
-        let b = r .before in
-        let l = r .line in
-        instruction-held (rowAt rows (pointAt ps p .line - 1)) (pointAt ps p .instruction) (k .each (pointAt ps p .line - 1) (omega arith) ∙ ap kept (r .instruction))
-
-    same : (p : ℕ) → p < length ps → pointIn rows at p ≡ tableAt (tableTo s lines) p
-    same p below = rw (line p below, claims p below, held p below, there p below)

@@ -1,8 +1,8 @@
 pub mod Scanning
-pub mod Tables
+pub mod Points
 pub mod Keeping
-pub mod Wholes
 pub mod Gathering
+pub mod Wholes
+pub mod Reading
 pub mod Listings
 pub mod Parts
-pub mod Reading

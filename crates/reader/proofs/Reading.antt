@@ -27,7 +27,7 @@ use Rattle.reader.specs.declared.read.Read.{Read}
 use Rattle.reader.specs.declared.scan.Sort.{Sort}
 use Rattle.reader.specs.declared.scan.Sort.the-variants.{Refused as refusedSort, Leas as leasSort, Most as mostSort, Strp as strpSort, Instruction as instructionSort}
 use Rattle.reader.specs.Scan.{sortOf, sortFrom}
-use Rattle.reader.specs.Kept.{ReadAs}
+use Rattle.reader.specs.Read.{ReadAs}
 
 pub refused-read : (r : Refusal) (x : Read) → x .row ≡ refusedRow → x .sort ≡ refusedSort r → ReadAs (refusedLine r) x
 refused-read r x e s = record { row = ap Decoded.lineFrom e ∙ refused-same; sort = s }

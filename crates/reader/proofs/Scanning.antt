@@ -14,7 +14,8 @@ use Rattle.model.specs.declared.claims.Claim.the-variants.{Leas, Most, Strp}
 use Rattle.model.specs.declared.claims.Line.{Line}
 use Rattle.model.specs.declared.claims.Line.the-variants.{Refused as refusedLine, Claim as claimLine, Instruction as instructionLine}
 use Rattle.model.specs.declared.answers.Refusal.the-variants.{ClaimOrder}
-use Rattle.model.specs.Listing.{Point, mayFollow, mayFollowAll, stripesAmong, inOrder, Reading, going, turned, afterLine}
+use Rattle.model.specs.Limits.{greatestStripes}
+use Rattle.model.specs.Listing.{Point, mayFollow, mayFollowAll, stripesAmong, inOrder, Reading, going, refusedReading, afterLine}
 use Rattle.reader.specs.Scan.{orderOf, lastOf, mayStand, stripesOf, sortOf, scanOf, progressOf, inOrderAfter, afterClaim, afterScan}
 use Rattle.reader.specs.declared.scan.Scan.{Scan}
 use Rattle.reader.specs.declared.scan.Progress.the-variants.{Going, Turned}
@@ -51,13 +52,13 @@ follow-last (b ∷ []) c = follow-same b c
 follow-last (a ∷ (b ∷ bs)) c = follow-last (b ∷ bs) c ∙ rw (eqb·suc-zero (length bs), eqb·suc-zero (length (b ∷ bs)))
 
 order-same : (ps : List Point) (cs : List Claim) (c : Claim) → inOrder cs c ≡ inOrderAfter (scanOf ps cs) (orderOf c)
-order-same ps cs c = rw (stripes-cons c cs, follow-last cs c) (go (decLe (stripesAmong cs + stripesOf (orderOf c)) 8) (cond (eqb (length cs) 0) true (mayStand (lastOf cs) (orderOf c))))
+order-same ps cs c = rw (stripes-cons c cs, follow-last cs c) (go (decLe (stripesAmong cs + stripesOf (orderOf c)) greatestStripes) (cond (eqb (length cs) 0) true (mayStand (lastOf cs) (orderOf c))))
   where
-    go : Dec (stripesAmong cs + stripesOf (orderOf c) ≤ 8) → (b : Bool) → (b && leb (stripesAmong cs + stripesOf (orderOf c)) 8) ≡ cond (ltb 8 (stripesAmong cs + stripesOf (orderOf c))) false b
-    go (yes h) b = rw (le-leb _ _ h, le-ltb 8 _ h) (and-true b)
+    go : Dec (stripesAmong cs + stripesOf (orderOf c) ≤ greatestStripes) → (b : Bool) → (b && leb (stripesAmong cs + stripesOf (orderOf c)) greatestStripes) ≡ cond (ltb greatestStripes (stripesAmong cs + stripesOf (orderOf c))) false b
+    go (yes h) b = rw (le-leb _ _ h, le-ltb greatestStripes _ h) (and-true b)
     go (no h) b =
-        let g : 8 < stripesAmong cs + stripesOf (orderOf c) = omega arith in
-        rw (lt-leb _ _ g, lt-ltb 8 _ g) (and-false b)
+        let g : greatestStripes < stripesAmong cs + stripesOf (orderOf c) = omega arith in
+        rw (lt-leb _ _ g, lt-ltb greatestStripes _ g) (and-false b)
 
 -- a claim counts by its order
 after-order : (q : Scan) (k : ℕ) (c : Claim) → afterScan (Going q) k (sortOf (claimLine c)) ≡ afterClaim q k (orderOf c)
@@ -67,14 +68,14 @@ after-order q k (Strp s) = refl
 
 -- one line more
 pub after-same : (r : Reading) (k : ℕ) (l : Line) → progressOf (afterLine r k l) ≡ afterScan (progressOf r) k (sortOf l)
-after-same (turned r) k l = refl
+after-same (refusedReading r) k l = refl
 after-same (going ps cs) k (refusedLine r) = refl
 after-same (going ps cs) k (claimLine c) = rw (after-order (scanOf ps cs) k c, order-same ps cs c) (go (inOrderAfter (scanOf ps cs) (orderOf c)))
   where
     more : scanOf ps (cs ++ (c ∷ [])) ≡ record { points = length ps; claims = length cs + 1; stripes = stripesAmong cs + stripesOf (orderOf c); last = orderOf c }
     more = rw (length-append cs (c ∷ []), stripes-snoc cs c, last-snoc cs c)
 
-    go : (b : Bool) → progressOf (cond b (going ps (cs ++ (c ∷ []))) (turned (ClaimOrder (k + 1)))) ≡ cond b (Going (record { points = length ps; claims = length cs + 1; stripes = stripesAmong cs + stripesOf (orderOf c); last = orderOf c })) (Turned (ClaimOrder (k + 1)))
+    go : (b : Bool) → progressOf (cond b (going ps (cs ++ (c ∷ []))) (refusedReading (ClaimOrder (k + 1)))) ≡ cond b (Going (record { points = length ps; claims = length cs + 1; stripes = stripesAmong cs + stripesOf (orderOf c); last = orderOf c })) (Turned (ClaimOrder (k + 1)))
     go true = ap Going more
     go false = refl
 after-same (going ps cs) k (instructionLine i) = rw (length-append ps (_ ∷ []))

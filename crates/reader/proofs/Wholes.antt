@@ -1,26 +1,28 @@
--- The tests over the table of points are the model's over the points. Assumes nothing.
+-- The tests over the whole listing, made on the points that rows and places hold. Assumes nothing.
 use mathlib.Core.Path.{_≡_, refl, sym, ap, _∙_}
-use mathlib.Core.Bool.{true, false, _&&_, false≢true}
+use mathlib.Core.Bool.{Bool, true, false, cond}
 use mathlib.Core.List.{List, [], _∷_, _++_}
-use Prim.Native.Nat.{ℕ, zero, suc, _-_, _≤_, _<_}
+use Prim.Native.Nat.{ℕ, suc, _-_, _≤_, _<_}
 use native.Mathlib.Omega.{arith}
-use native.Mathlib.Decide.{decLe}
-use lib.ListN.{length, take}
-use lib.Seq.{take-suc, take-length}
-use lib.Dec.{leb, ltb, eqb·suc-zero}
-use borrow.Author.Tests.{le-leb, lt-leb, le-ltb, lt-ltb, leb-true, ltb-true}
+use lib.ListN.{length}
+use borrow.Author.Tests.{le-leb, lt-leb}
 use Rattle.model.specs.declared.claims.Claim.{Claim}
+use Rattle.model.specs.declared.answers.Refusal.the-variants.{LastLineClaim, TooManyPoints, NoEnd, EmptyStart}
 use Rattle.model.specs.declared.answers.Judgement.{Judgement}
 use Rattle.model.specs.declared.answers.Judgement.the-variants.{Accepted, Refused as refused}
 use Rattle.model.specs.Answers.{_andThen_}
-use Rattle.model.specs.Listing.{Point, pointAt, targets, targetsExist, allTargetsExist, endsInPlace, startsNonEmpty, wholeJudged}
-use Rattle.model.proofs.Tests.{and-left, and-right, and-both}
+use Rattle.model.specs.Limits.{greatestPoints}
+use Rattle.model.specs.Instructions.{targets, goesOn, hasTarget}
+use Rattle.model.specs.Facts.{factsOf, nonEmpty}
+use Rattle.model.specs.Listing.{Point, pointAt, targetsExist, allTargetsExist, endsInPlace, startsNonEmpty, wholeJudged}
 use Rattle.decoded.specs.declared.rows.Row.{Row}
 use Rattle.decoded.specs.Decoded.{instructionFrom}
-use Rattle.decoded.proofs.ByKind.{no-target, own-target}
-use Rattle.reader.specs.Scan.{scanOf, tableTo}
-use Rattle.reader.specs.Whole.{tableAt, targetsTo, lastJudged, pointsJudged}
-use Rattle.reader.proofs.Tables.{LinesRead, noModelPoint}
+use Rattle.decoded.proofs.ByKind.{own-target, none-named}
+use Rattle.reader.specs.Scan.{scanOf}
+use Rattle.reader.specs.Points.{lineIn, pointIn, pointsIn}
+use Rattle.reader.specs.Read.{Scanned}
+use Rattle.reader.specs.declared.scan.Scan.{Scan}
+use Rattle.reader.proofs.Points.{points-next, points-count, points-at, points-are}
 
 then-accepted : (j : Judgement) → (j andThen Accepted) ≡ j
 then-accepted Accepted = refl
@@ -36,43 +38,60 @@ targets-snoc n (p ∷ ps) q =
     ap (λ (j : Judgement). targetsExist n (p .line) (targets (p .instruction)) andThen j) (targets-snoc n ps q)
     ∙ sym (then-assoc (targetsExist n (p .line) (targets (p .instruction))) (allTargetsExist n ps) (targetsExist n (q .line) (targets (q .instruction))))
 
-module _ (s : List ℕ) (lines : ℕ) (ps : List Point) (cs : List Claim) (h : LinesRead s lines ps cs) where
-  targets-same : length ps ≤ 512 → (p : ℕ) → p ≤ length ps → targetsTo (tableTo s lines) (length ps) p ≡ allTargetsExist (length ps) (take p ps)
-  unfolding targetsTo
-  targets-same few zero k = refl
-  targets-same few (suc p) k =
-      let i : p < length ps = omega arith in
-      rw (take-suc ps p noModelPoint i, targets-snoc (length ps) (take p ps) (pointAt ps p), targets-same few p (omega arith), h .table p i (omega arith))
+-- 9, for one point more
+pub targets-next : (rows at : List ℕ) (n p : ℕ)
+    → allTargetsExist n (pointsIn rows at (suc p)) ≡ (allTargetsExist n (pointsIn rows at p) andThen targetsExist n (lineIn at p) (targets (pointIn rows at p .instruction)))
+targets-next rows at n p = ap (allTargetsExist n) (points-next rows at p) ∙ targets-snoc n (pointsIn rows at p) (pointIn rows at p)
 
-  few-same : length ps ≤ 512 → 1 ≤ length ps
-      → (targetsTo (tableTo s lines) (length ps) (length ps) andThen lastJudged lines (tableAt (tableTo s lines) (length ps - 1) .instruction))
-      ≡ (allTargetsExist (length ps) ps andThen endsInPlace lines ps)
-  few-same few one =
-      let all : targetsTo (tableTo s lines) (length ps) (length ps) ≡ allTargetsExist (length ps) ps = targets-same few (length ps) (omega arith) ∙ ap (allTargetsExist (length ps)) (take-length ps) in
-      rw (all, h .table (length ps - 1) (omega arith) (omega arith))
+-- 10 and 11, by what the last and the first place hold
+module _ (rows at : List ℕ) (lines n : ℕ) (some : 1 ≤ n) where
+  pub ends-as : (b : Bool) → b ≡ goesOn (pointIn rows at (n - 1) .instruction) → cond b (refused (NoEnd lines)) Accepted ≡ endsInPlace lines (pointsIn rows at n)
+  ends-as b e = rw (e, points-count rows at n, points-at rows at n (n - 1) (omega arith))
 
--- 7 to 10, and then 11
-pub whole-same : (s : List ℕ) (lines : ℕ) (ps : List Point) (cs : List Claim) → LinesRead s lines ps cs → 1 ≤ lines
-    → (pointsJudged lines (tableTo s lines) (scanOf ps cs) andThen startsNonEmpty ps) ≡ wholeJudged lines ps cs
-unfolding pointsJudged wholeJudged
-whole-same s lines ps (c ∷ cs) h one = rw (eqb·suc-zero (length cs))
-whole-same s lines ps [] h one = go (decLe (length ps) 512)
-  where
-    go : Dec (length ps ≤ 512) → (pointsJudged lines (tableTo s lines) (scanOf ps []) andThen startsNonEmpty ps) ≡ wholeJudged lines ps []
-    go (yes few) =
-        let some = h .some one in
-        rw (le-ltb 512 (length ps) few, le-leb _ _ few, few-same s lines ps [] h few (omega arith))
-    go (no many) =
-        let more : 512 < length ps = omega arith in
-        rw (lt-ltb 512 (length ps) more, lt-leb _ _ more, h .table 512 more (omega arith))
+  pub starts-as : (b : Bool) → b ≡ nonEmpty (factsOf (pointIn rows at 0 .claims) .ranges) → cond b Accepted (refused (EmptyStart (lineIn at 0))) ≡ startsNonEmpty (pointsIn rows at n)
+  starts-as b e = rw (e, points-at rows at n 0 (omega arith))
 
 -- the targets of a row, by its kind
 module _ (n line : ℕ) (r : Row) where
-  pub names-none : (leb 1 (r .kind) && ltb (r .kind) 10) ≡ true → Accepted ≡ targetsExist n line (targets (instructionFrom r))
-  names-none e =
-      let low = leb-true 1 (r .kind) (and-left (leb 1 (r .kind)) (ltb (r .kind) 10) e) in
-      let high = ltb-true (r .kind) 10 (and-right (leb 1 (r .kind)) (ltb (r .kind) 10) e) in
-      sym (ap (targetsExist n line) (no-target r low high))
+  pub names-none : hasTarget (instructionFrom r) ≡ false → Accepted ≡ targetsExist n line (targets (instructionFrom r))
+  names-none e = sym (ap (targetsExist n line) (none-named (targets (instructionFrom r)) e))
 
-  pub names-own : (leb 1 (r .kind) && ltb (r .kind) 10) ≡ false → targetsExist n line (r .fourth ∷ []) ≡ targetsExist n line (targets (instructionFrom r))
-  names-own e = sym (ap (targetsExist n line) (own-target r (λ low high. false≢true (sym e ∙ and-both (leb 1 (r .kind)) (ltb (r .kind) 10) (le-leb 1 (r .kind) low) (lt-ltb (r .kind) 10 high)))))
+  pub names-own : hasTarget (instructionFrom r) ≡ true → targetsExist n line (r .fourth ∷ []) ≡ targetsExist n line (targets (instructionFrom r))
+  names-own e = sym (ap (targetsExist n line) (own-target r e))
+
+module _ (rows at : List ℕ) (lines : ℕ) (ps : List Point) (cs : List Claim) (h : Scanned rows at lines ps cs) (q : Scan) (is : q ≡ scanOf ps cs) where
+  count : q .points ≡ length ps
+  count = ap (λ (x : Scan). x .points) is
+
+  left-over : q .claims ≡ length cs
+  left-over = ap (λ (x : Scan). x .claims) is
+
+  -- 7
+  pub whole-open : (q .claims ≡ 0 → ⊥) → refused (LastLineClaim lines) ≡ wholeJudged lines ps cs
+  unfolding wholeJudged
+  whole-open some = go cs left-over
+    where
+      go : (xs : List Claim) → q .claims ≡ length xs → refused (LastLineClaim lines) ≡ wholeJudged lines ps xs
+      go [] e = absurd (some e)
+      go (x ∷ xs) e = refl
+
+  module _ (none : q .claims ≡ 0) where
+    closed : (xs : List Claim) → q .claims ≡ length xs → xs ≡ []
+    closed [] e = refl
+    closed (x ∷ xs) e = absurd (omega arith)
+
+    -- 8
+    pub whole-many : greatestPoints < q .points → refused (TooManyPoints (lineIn at greatestPoints)) ≡ wholeJudged lines ps cs
+    unfolding wholeJudged
+    whole-many many =
+        let more : greatestPoints < length ps = omega (arith, count) in
+        let line : lineIn at greatestPoints ≡ pointAt ps greatestPoints .line = ap (λ (x : Point). x .line) (h .each greatestPoints more (omega arith) .is) in
+        rw (closed cs left-over, lt-leb (length ps) greatestPoints more, line)
+
+    -- 9 to 11
+    pub whole-few : q .points ≤ greatestPoints → (n : ℕ) → n ≡ q .points
+        → (allTargetsExist n (pointsIn rows at n) andThen endsInPlace lines (pointsIn rows at n) andThen startsNonEmpty (pointsIn rows at n)) ≡ wholeJudged lines ps cs
+    unfolding wholeJudged
+    whole-few few n e =
+        let fits : length ps ≤ greatestPoints = omega (arith, count) in
+        rw (closed cs left-over, e, count, points-are rows at ps (λ p b. h .each p b (omega arith) .is), le-leb (length ps) greatestPoints fits)

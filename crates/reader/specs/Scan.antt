@@ -1,11 +1,9 @@
--- How the code keeps what the model reads: counts and the order of the last claim in place of lists, and a table of points.
--- The table has 514 places: one for each of 512 points, one for the 513th, whose line refusal 8 names, and one that takes every other line.
-use Prim.Native.Nat.{ℕ, zero, suc, _+_, _≤_}
+-- How the code keeps what the model reads: counts and the order of the last claim in place of lists.
+use Prim.Native.Nat.{ℕ, _+_, _≤_}
 use mathlib.Core.Bool.{Bool, true, false, _&&_, _||_, cond}
-use mathlib.Core.List.{List, [], _∷_, _++_}
-use lib.ListN.{length, set, replicate}
-use lib.Dec.{leb, ltb, eqb}
-use Rattle.model.specs.declared.machine.Instruction.the-variants.{Stop}
+use mathlib.Core.List.{List, [], _∷_}
+use lib.ListN.{length}
+use lib.Dec.{ltb, eqb}
 use Rattle.model.specs.declared.text.Word.{Word}
 use Rattle.model.specs.declared.text.Word.the-variants.{Stop as STOP, Setc as SETC, Copy as COPY, Addw as ADDW, Subw as SUBW, Mulw as MULW, Divf as DIVF, Load as LOAD, Stor as STOR, Jump as JUMP, Bltu as BLTU, Bequ as BEQU, Leas as LEAS, Most as MOST, Strp as STRP}
 use Rattle.model.specs.declared.claims.Claim.{Claim}
@@ -14,10 +12,7 @@ use Rattle.model.specs.declared.claims.Line.{Line}
 use Rattle.model.specs.declared.claims.Line.the-variants.{Refused as refusedLine, Claim as claimLine, Instruction as instructionLine}
 use Rattle.model.specs.declared.answers.Refusal.the-variants.{ClaimOrder}
 use Rattle.model.specs.Limits.{greatestStripes}
-use Rattle.model.specs.Lines.{readLine}
-use Rattle.model.specs.Listing.{lineAt, stripesAmong, Reading, going, turned, readTo}
-use Rattle.model.specs.Listing as model
-use Rattle.reader.specs.declared.scan.Point.{Point}
+use Rattle.model.specs.Listing.{Point, stripesAmong, Reading, going, refusedReading}
 use Rattle.reader.specs.declared.scan.Order.{Order}
 use Rattle.reader.specs.declared.scan.Sort.{Sort}
 use Rattle.reader.specs.declared.scan.Sort.the-variants.{Refused as refusedSort, Leas as leasSort, Most as mostSort, Strp as strpSort, Instruction as instructionSort}
@@ -80,12 +75,12 @@ sortFrom MOST v = mostSort v
 sortFrom STRP v = strpSort
 
 -- what the code keeps of points and claims
-abbrev pub scanOf : List model.Point → List Claim → Scan
+abbrev pub scanOf : List Point → List Claim → Scan
 scanOf ps cs = record { points = length ps; claims = length cs; stripes = stripesAmong cs; last = lastOf cs }
 
 abbrev pub progressOf : Reading → Progress
 progressOf (going ps cs) = Going (scanOf ps cs)
-progressOf (turned r) = Turned r
+progressOf (refusedReading r) = Turned r
 
 -- the claim stands in order after those read
 abbrev pub inOrderAfter : Scan → Order → Bool
@@ -107,46 +102,5 @@ afterScan (Going q) k instructionSort = Going (record { points = q .points + 1; 
 
 -- the counts after k lines
 abbrev pub Within : Progress → ℕ → Type 0
-Within (Going q) k = (q .points ≤ k) × (q .claims ≤ k) × (q .stripes ≤ 8)
+Within (Going q) k = (q .points ≤ k) × (q .claims ≤ k) × (q .stripes ≤ greatestStripes)
 Within (Turned r) k = Unit {0}
-
--- a point as the code keeps it
-abbrev pub coded : model.Point → Point
-coded q = record { instruction = q .instruction; line = q .line; claims = length (q .claims) }
-
-abbrev pub noPoint : Point
-noPoint = record { instruction = Stop; line = 0; claims = 0 }
-
--- where the table takes the line
-abbrev pub slotOf : Progress → Line → ℕ
-slotOf (Turned r) l = 513
-slotOf (Going q) (refusedLine r) = 513
-slotOf (Going q) (claimLine c) = 513
-slotOf (Going q) (instructionLine i) = cond (leb (q .points) 512) (q .points) 513
-
--- the point of the k-th line
-abbrev pub pointFrom : Progress → ℕ → Line → Point
-pointFrom (Turned r) k l = noPoint
-pointFrom (Going q) k (refusedLine r) = noPoint
-pointFrom (Going q) k (claimLine c) = noPoint
-pointFrom (Going q) k (instructionLine i) = record { instruction = i; line = k + 1; claims = q .claims }
-
--- the k-th line, read
-abbrev pub lineRead : List ℕ → ℕ → Line
-lineRead s k = readLine (k + 1) (lineAt s k)
-
--- the table after n lines
-unfoldable pub tableTo : List ℕ → ℕ → List Point
-tableTo s zero = replicate 514 noPoint
-tableTo s (suc n) = set (tableTo s n) (slotOf (progressOf (readTo s n)) (lineRead s n)) (pointFrom (progressOf (readTo s n)) n (lineRead s n))
-
--- the claim of a line, if it is one
-abbrev pub claimOn : Line → List Claim
-claimOn (refusedLine r) = []
-claimOn (claimLine c) = c ∷ []
-claimOn (instructionLine i) = []
-
--- the claims on n lines from line from on, counted from 0
-unfoldable pub claimsIn : List ℕ → ℕ → ℕ → List Claim
-claimsIn s from zero = []
-claimsIn s from (suc n) = claimsIn s from n ++ claimOn (lineRead s (from + n))

@@ -1,32 +1,38 @@
 // The claim lines of a point as a part of the lent listing, and what turns the call for them back.
-use crate::kept::point_at;
-use crate::listing::first_of;
 use crate::listing::read_listing;
-use crate::scan::Point;
+use crate::places::claims_of;
+use crate::places::first_of;
+use crate::sizes::ALL_ROWS;
+use crate::sizes::PLACE_NUMBERS;
 use model::answers::ClaimPart;
 use model::answers::Judgement;
 use model::answers::Refusal;
+use model::limits::LINE_BYTES;
 ghost use mathlib.Core.Path.{_≡_};
-ghost use Prim.Native.Nat.{_≤_, _<_};
-ghost use Rattle.model.specs.Listing.{listingOf, claimLinesJudged, claimLines, claimPart};
-ghost use Rattle.reader.specs.Listing.{partOf, noPart};
+ghost use mathlib.Core.List.{List};
+ghost use Prim.Native.Nat.{ℕ, _≤_, _<_};
+ghost use lib.ListN.{length};
+ghost use Rattle.model.specs.declared.answers.Judgement.the-variants.{Accepted, Refused as refused};
+ghost use Rattle.model.specs.Limits.{greatestPoints};
+ghost use Rattle.model.specs.Listing.{Point, listingOf, claimLinesJudged, claimLines, partJudged, claimPart};
+ghost use Rattle.reader.specs.Sizes.{placeNumbers, greatestLines};
+ghost use Rattle.reader.specs.Points.{lineIn, numberIn, pointIn};
 
 // The part of a point that is read.
-fn part_of(q: Point) -> ClaimPart
-    requires { ⌜ (q .claims < q .line) × (q .line ≤ 1638) ⌝ }
-    ensures { λ r. ⌜ r ≡ partOf q ⌝ }
+fn part_of(at: &[u16], p: usize) -> ClaimPart
+    requires { ⌜ (length (now at) ≡ placeNumbers) × (p ≤ greatestPoints) × (numberIn (now at) p < lineIn (now at) p) × (lineIn (now at) p ≤ greatestLines) ⌝ }
+    ensures { λ r. ⌜ ((rows : List ℕ) → r ≡ partJudged Accepted (pointIn rows (now (at .entry)) p)) ⌝ }
 {
-    let from = first_of(q);
     ClaimPart {
         judgement: Judgement::Accepted,
-        offset: from * 40,
-        length: q.claims * 40,
+        offset: first_of(at, p) * LINE_BYTES,
+        length: claims_of(at, p) * LINE_BYTES,
     }
 }
 
 // A call that is turned back has no part.
 fn no_part(r: Refusal) -> ClaimPart
-    ensures { λ x. ⌜ x ≡ noPart r ⌝ }
+    ensures { λ x. ⌜ ((q : Point) → x ≡ partJudged (refused r) q) ⌝ }
 {
     ClaimPart {
         judgement: Judgement::Refused(r),
@@ -39,17 +45,15 @@ fn no_part(r: Refusal) -> ClaimPart
 pub fn claim_part(listing: &[u8], point: usize) -> ClaimPart
     ensures { λ r. ⌜ r ≡ claimPart (now (listing .entry)) point ⌝ }
 {
-    let mut rows = [0u64; 13104];
-    let mut at = [0u16; 1026];
+    let mut rows = [0u64; ALL_ROWS];
+    let mut at = [0u16; PLACE_NUMBERS];
     let l = read_listing(listing, &mut rows, &mut at);
     let j = l.judgement;
     match j {
         Judgement::Refused(r) => no_part(r),
         Judgement::Accepted => {
             if point < l.count {
-                let lines = listing.len() / 40;
-                let q = point_at(listing, &rows, &at, lines, l.count, point);
-                return part_of(q);
+                return part_of(&at, point);
             }
             no_part(Refusal::NoSuchPoint)
         }

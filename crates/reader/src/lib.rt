@@ -1,8 +1,9 @@
 // From a lent listing to its points: refusals 1 to 11, and the claim lines of a point.
 pub mod claims;
 pub mod facts;
-pub mod kept;
 pub mod listing;
+pub mod places;
 pub mod read;
 pub mod scan;
+pub mod sizes;
 pub mod whole;

@@ -1,5 +1,5 @@
 // The lines of a listing, read in order: each is kept as a row of numbers, each point has its place.
-use crate::kept::note;
+use crate::places::note;
 use crate::scan::Progress;
 use crate::scan::Sort;
 use crate::scan::after;
@@ -16,6 +16,7 @@ use lines::words::find_word;
 use model::answers::Judgement;
 use model::answers::Refusal;
 use model::claims::Line;
+use model::limits::LINE_BYTES;
 use model::text::Field;
 use model::text::FoundWord;
 use model::text::Word;
@@ -24,10 +25,12 @@ ghost use Prim.Native.Nat.{_*_, _≤_};
 ghost use lib.ListN.{length};
 ghost use Rattle.model.specs.declared.text.FoundWord.the-variants.{Known};
 ghost use Rattle.model.specs.declared.claims.Line.the-variants.{Refused as refusedLine};
+ghost use Rattle.model.specs.Limits.{lineBytes};
 ghost use Rattle.model.specs.Lines.{judged, lineFrom, lineOr, lineFound, readLine};
 ghost use Rattle.model.specs.Listing.{readTo};
 ghost use Rattle.reader.specs.Scan.{progressOf, sortFrom};
-ghost use Rattle.reader.specs.Kept.{Kept, Placed, ReadAs};
+ghost use Rattle.reader.specs.Sizes.{greatestLines, placeNumbers};
+ghost use Rattle.reader.specs.Read.{ReadAs, ScannedSo};
 
 // What is read of a line: its row, and what the order of the lines depends on.
 pub struct Read {
@@ -94,7 +97,7 @@ fn read_found(place: usize, w: FoundWord, fs: [Field; 6]) -> Read
 
 // A line with its number: what it holds, or what turns it back.
 fn read_bytes(place: usize, l: &[u8]) -> Read
-    requires { ⌜ length (now l) ≡ 40 ⌝ }
+    requires { ⌜ length (now l) ≡ lineBytes ⌝ }
     ensures { λ x. ⌜ ReadAs (readLine place (now (l .entry))) x ⌝ }
 {
     if is_well_spelled(l) {
@@ -107,7 +110,7 @@ fn read_bytes(place: usize, l: &[u8]) -> Read
 
 // A line by itself, with its number.
 pub fn read_line(place: usize, l: &[u8]) -> Line
-    requires { ⌜ length (now l) ≡ 40 ⌝ }
+    requires { ⌜ length (now l) ≡ lineBytes ⌝ }
     ensures { λ r. ⌜ r ≡ readLine place (now (l .entry)) ⌝ }
 {
     let x = read_bytes(place, l);
@@ -124,18 +127,17 @@ pub fn read_line(place: usize, l: &[u8]) -> Line
 
 // The first n lines: what was read, or the first refusal.
 pub(crate) fn read_lines(listing: &[u8], n: usize, rows: &mut [u64], at: &mut [u16]) -> Progress
-    requires { ⌜ (n ≤ 1638) × (n * 40 ≤ length (now listing)) ⌝ }
+    requires { ⌜ (n ≤ greatestLines) × (n * lineBytes ≤ length (now listing)) ⌝ }
     requires { ⌜ n * 8 ≤ length (now rows) ⌝ }
-    requires { ⌜ Placed (now listing) (now at) 0 ⌝ }
+    requires { ⌜ length (now at) ≡ placeNumbers ⌝ }
     ensures { λ r. ⌜ r ≡ progressOf (readTo (now (listing .entry)) n) ⌝ }
-    ensures { λ r. ⌜ Kept (now (listing .entry)) (now (rows .exit)) n ⌝ }
-    ensures { λ r. ⌜ Placed (now (listing .entry)) (now (at .exit)) n ⌝ }
+    ensures { λ r. ⌜ ScannedSo (now (rows .exit)) (now (at .exit)) n (readTo (now (listing .entry)) n) ⌝ }
 {
     let mut p = begin();
     let mut k = 0;
     while k < n {
-        let a = k * 40;
-        let e = a + 40;
+        let a = k * LINE_BYTES;
+        let e = a + LINE_BYTES;
         let x = read_bytes(k + 1, &listing[a..e]);
         let row = x.row;
         let sort = x.sort;

@@ -1,18 +1,13 @@
 // The lines of a listing in order: what has been read so far, and the first refusal.
 use model::answers::Refusal;
-use model::machine::Instruction;
+use model::limits::GREATEST_STRIPES;
 ghost use mathlib.Core.Path.{_≡_};
 ghost use Prim.Native.Nat.{_≤_, _<_};
 ghost use mathlib.Core.List.{[]};
+ghost use Rattle.model.specs.Limits.{greatestStripes};
 ghost use Rattle.model.specs.Listing.{going};
+ghost use Rattle.reader.specs.Sizes.{greatestLines};
 ghost use Rattle.reader.specs.Scan.{order, noOrder, mayStand, stripesOf, inOrderAfter, afterClaim, afterScan, progressOf, Within};
-
-// A point as the checker and the runner keep it: its instruction, the instruction's line counted from 1, and how many claim lines stand before it.
-pub struct Point {
-    pub instruction: Instruction,
-    pub line: usize,
-    pub claims: usize,
-}
 
 // What decides where a claim may stand: the rank of its word, LEAS 0, MOST 1 and STRP 2, and the variable of the first two.
 pub struct Order {
@@ -90,10 +85,10 @@ fn stripes_of(c: Order) -> usize
 
 // Whether a claim stands in order after those read.
 fn in_order(q: Scan, c: Order) -> bool
-    requires { ⌜ q .stripes ≤ 8 ⌝ }
+    requires { ⌜ q .stripes ≤ greatestStripes ⌝ }
     ensures { λ r. ⌜ r ≡ inOrderAfter q c ⌝ }
 {
-    if 8 < q.stripes + stripes_of(c) {
+    if GREATEST_STRIPES < q.stripes + stripes_of(c) {
         return false;
     }
     if q.claims == 0 {
@@ -105,7 +100,7 @@ fn in_order(q: Scan, c: Order) -> bool
 
 // A claim on the k-th line.
 fn after_claim(q: Scan, k: usize, c: Order) -> Progress
-    requires { ⌜ (k < 65536) × (q .claims ≤ k) × (q .stripes ≤ 8) ⌝ }
+    requires { ⌜ (k < greatestLines) × (q .claims ≤ k) × (q .stripes ≤ greatestStripes) ⌝ }
     ensures { λ r. ⌜ r ≡ afterClaim q k c ⌝ }
 {
     if in_order(q, c) {
@@ -121,7 +116,7 @@ fn after_claim(q: Scan, k: usize, c: Order) -> Progress
 
 // What has been read after the k-th line, counted from 0.
 pub(crate) fn after(p: Progress, k: usize, l: Sort) -> Progress
-    requires { ⌜ (k < 65536) × Within p k ⌝ }
+    requires { ⌜ (k < greatestLines) × Within p k ⌝ }
     ensures { λ r. ⌜ r ≡ afterScan p k l ⌝ }
 {
     match p {

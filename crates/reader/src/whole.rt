@@ -1,23 +1,28 @@
-// The tests over the whole listing that look at its points alone: refusals 7 to 10.
-use crate::kept::line_of;
-use crate::kept::point_at;
-use crate::kept::row_of;
+// The tests over the whole listing: refusals 7 to 11.
+use crate::facts::facts_at;
+use crate::places::line_of;
+use crate::places::row_of;
 use crate::scan::Scan;
-use decoded::kinds::JUMP;
-use decoded::kinds::STOP;
+use decoded::decode::has_target;
+use decoded::decode::instruction_from;
 use decoded::rows::Row;
+use goals::sizes::STRIPE_NUMBERS;
 use model::answers::Judgement;
 use model::answers::Refusal;
+use model::limits::GREATEST_POINTS;
+use model::limits::VARIABLES;
 use model::machine::Instruction;
 ghost use mathlib.Core.Path.{_≡_};
-ghost use mathlib.Core.List.{[], _∷_};
+ghost use mathlib.Core.List.{List, [], _∷_};
+ghost use Prim.Native.Nat.{_≤_};
+ghost use Rattle.model.specs.declared.claims.Claim.{Claim};
 ghost use Rattle.model.specs.Answers.{_andThen_};
-ghost use Rattle.model.specs.Listing.{goesOn, targets, targetsExist};
+ghost use Rattle.model.specs.Instructions.{goesOn, targets};
+ghost use Rattle.model.specs.Listing.{Point, targetsExist, allTargetsExist, endsInPlace, startsNonEmpty, wholeJudged};
 ghost use Rattle.decoded.specs.Decoded.{instructionFrom};
-ghost use Rattle.reader.specs.Scan.{tableTo};
-ghost use Rattle.reader.specs.Whole.{targetsTo, lastJudged, pointsJudged};
-ghost use Rattle.reader.specs.Kept.{Kept, Placed, Filled};
-ghost use Rattle.reader.specs.Listing.{Whole};
+ghost use Rattle.reader.specs.Scan.{scanOf};
+ghost use Rattle.reader.specs.Points.{pointsIn, AllPlaced};
+ghost use Rattle.reader.specs.Read.{Scanned, AllRead};
 
 // The first refusal of two tests made in order.
 fn and_then(j: Judgement, k: Judgement) -> Judgement
@@ -72,70 +77,75 @@ fn target_exists(n: usize, line: usize, t: usize) -> Judgement
     Judgement::Refused(Refusal::NoSuchTarget { line })
 }
 
-// 9 for the instruction of a row, of n points. From STOP to STOR none names a target; every other one names it in F4.
+// 9 for the instruction of a row on this line, of n points.
 fn own_target_exists(n: usize, line: usize, r: Row) -> Judgement
     ensures { λ j. ⌜ j ≡ targetsExist n line (targets (instructionFrom r)) ⌝ }
 {
-    if (STOP <= r.kind) & (r.kind < JUMP) {
-        return Judgement::Accepted;
+    if has_target(r) {
+        return target_exists(n, line, r.fourth as usize);
     }
-    target_exists(n, line, r.fourth as usize)
+    Judgement::Accepted
 }
 
-// 9 for the first n points, of n.
-fn targets_exist<'a>(
-    listing: &'a [u8],
-    rows: &'a [u64],
-    at: &'a [u16],
-    lines: usize,
-    n: usize,
-) -> Judgement
-    requires { ⌜ Filled (now listing) (now rows) (now at) lines n ⌝ }
-    ensures { λ r. ⌜ r ≡ targetsTo (tableTo (now (listing .entry)) lines) n n ⌝ }
+// 9 for n points, of n.
+fn targets_exist<'a>(rows: &'a [u64], at: &'a [u16], n: usize) -> Judgement
+    requires { ⌜ AllPlaced (now rows) (now at) n ⌝ }
+    ensures { λ r. ⌜ r ≡ allTargetsExist n (pointsIn (now (rows .entry)) (now (at .entry)) n) ⌝ }
 {
     let mut j = Judgement::Accepted;
     let mut p = 0;
     while p < n {
-        let r = row_of(listing, rows, at, lines, n, p);
+        let r = row_of(rows, at, p);
         j = and_then(j, own_target_exists(n, line_of(at, p), r));
         p += 1;
     }
     j
 }
 
-// 10: the last instruction neither stops nor jumps.
-fn last_judged(lines: usize, i: Instruction) -> Judgement
-    ensures { λ r. ⌜ r ≡ lastJudged lines i ⌝ }
+// 10: the last of n instructions neither stops nor jumps.
+fn last_judged<'a>(rows: &'a [u64], at: &'a [u16], lines: usize, n: usize) -> Judgement
+    requires { ⌜ AllPlaced (now rows) (now at) n × (1 ≤ n) ⌝ }
+    ensures { λ r. ⌜ r ≡ endsInPlace lines (pointsIn (now (rows .entry)) (now (at .entry)) n) ⌝ }
 {
-    if goes_on(i) {
+    if goes_on(instruction_from(row_of(rows, at, n - 1))) {
         return Judgement::Refused(Refusal::NoEnd { line: lines });
     }
     Judgement::Accepted
 }
 
-// 7 to 10 of a listing with so many lines, all read.
-pub(crate) fn judge_points<'a>(
-    listing: &'a [u8],
-    rows: &'a [u64],
-    at: &'a [u16],
-    lines: usize,
-    q: Scan,
-) -> Judgement
-    requires { ⌜ Kept (now listing) (now rows) lines × Placed (now listing) (now at) lines ⌝ }
-    requires { ⌜ Whole (now listing) lines q ⌝ }
-    ensures { λ r. ⌜ r ≡ pointsJudged lines (tableTo (now (listing .entry)) lines) q ⌝ }
+// 11 for n points: no range of the first is empty.
+fn start_judged<'a>(rows: &'a [u64], at: &'a [u16], n: usize) -> Judgement
+    requires { ⌜ AllPlaced (now rows) (now at) n × (1 ≤ n) ⌝ }
+    ensures { λ r. ⌜ r ≡ startsNonEmpty (pointsIn (now (rows .entry)) (now (at .entry)) n) ⌝ }
+{
+    let mut low = [0u64; VARIABLES];
+    let mut high = [0u64; VARIABLES];
+    let mut stripes = [0u64; STRIPE_NUMBERS];
+    facts_at(rows, at, 0, &mut low, &mut high, &mut stripes);
+    if domain::is_possible(&low, &high) {
+        return Judgement::Accepted;
+    }
+    Judgement::Refused(Refusal::EmptyStart {
+        line: line_of(at, 0),
+    })
+}
+
+// 7 to 11 of a listing with so many lines, all read.
+pub(crate) fn whole_judged<'a>(rows: &'a [u64], at: &'a [u16], lines: usize, q: Scan) -> Judgement
+    requires { ⌜ AllRead (now rows) (now at) q ⌝ }
+    ensures { λ r. ⌜ ((ps : List Point) (cs : List Claim) → Scanned (now (rows .entry)) (now (at .entry)) lines ps cs → q ≡ scanOf ps cs → r ≡ wholeJudged lines ps cs) ⌝ }
 {
     if q.claims != 0 {
         return Judgement::Refused(Refusal::LastLineClaim { line: lines });
     }
     let n = q.points;
-    if 512 < n {
+    if GREATEST_POINTS < n {
         return Judgement::Refused(Refusal::TooManyPoints {
-            line: line_of(at, 512),
+            line: line_of(at, GREATEST_POINTS),
         });
     }
-    let last = point_at(listing, rows, at, lines, n, n - 1);
-    let i = last.instruction;
-    let targets = targets_exist(listing, rows, at, lines, n);
-    and_then(targets, last_judged(lines, i))
+    let targets = targets_exist(rows, at, n);
+    let end = last_judged(rows, at, lines, n);
+    let start = start_judged(rows, at, n);
+    and_then(and_then(targets, end), start)
 }

@@ -1,5 +1,4 @@
 use borrow.Author.Needs.{needs}
-use Rattle.reader.proofs.Keeping.{no-places}
 use Rattle.checker.proofs.Checking.{check-refused, check-passed}
 use Rattle.checker.proofs.check_in.Statement.{statement}
 use Rattle.checker.proofs.check_in.Tie as tie
@@ -8,7 +7,7 @@ slice-aggregate-judged-listing : tie.Need-slice-aggregate-judged-listing
 slice-aggregate-judged-listing c = search needs
 
 judged-listing-requires : tie.Need-judged-listing-requires
-judged-listing-requires c κs = record { lines = c .before .before .before .before .pre; places = no-places _ }
+judged-listing-requires c κs = record { lines = c .before .before .before .before .pre; places = search needs }
 
 enum-known-j : tie.Need-enum-known-j
 enum-known-j c = search needs

@@ -1,5 +1,5 @@
 use borrow.Author.Needs.{needs}
-use Rattle.checker.proofs.Checking.{is-read, judged-unreadable, judged-read}
+use Rattle.checker.proofs.Checking.{is-read, judged-refusedListing, judged-read}
 use Rattle.checker.proofs.judged_listing.Statement.{statement}
 use Rattle.checker.proofs.judged_listing.Tie as tie
 
@@ -13,7 +13,7 @@ enum-told-2 : tie.Need-enum-told-2
 enum-told-2 c = search needs
 
 points-judged-requires : tie.Need-points-judged-requires
-points-judged-requires c κs = let r = is-read _ _ _ _ (c .before .before .before .before .before .before .before .before .read-listing .ensures) (c .before .before .enum-told2 .given .1) in (r .points, (r .held, r .count))
+points-judged-requires c κs = (is-read _ _ _ _ (c .before .before .before .before .before .before .before .before .read-listing .ensures) (c .before .before .enum-told2 .given .1)) .holds
 
 same-length : tie.Need-same-length
 same-length c = search needs
@@ -22,7 +22,7 @@ same-length-2 : tie.Need-same-length-2
 same-length-2 c = search needs
 
 returns : tie.Need-returns
-returns c = judged-unreadable _ _ _ _ (c .before .before .before .before .before .before .read-listing .ensures) _ (c .enum-told .given .1)
+returns c = judged-refusedListing _ _ _ _ (c .before .before .before .before .before .before .read-listing .ensures) _ (c .enum-told .given .1)
 
 same-length-3 : tie.Need-same-length-3
 same-length-3 c = search needs

@@ -20,8 +20,11 @@ cast-t13 c = search needs
 cast-t14 : tie.Need-cast-t14
 cast-t14 c = search needs
 
-add-t16 : tie.Need-add-t16
-add-t16 c = search needs
+cast-t15 : tie.Need-cast-t15
+cast-t15 c = search needs
+
+add-t17 : tie.Need-add-t17
+add-t17 c = search needs
 
 goal-follows-requires : tie.Need-goal-follows-requires
 goal-follows-requires c κs = (point-sized _ _ _ _ (c .before .before .pre .0), record { plus = omega arith; minus = omega arith })
@@ -41,6 +44,7 @@ safe-by-goal-spec =
     bytes-requires
     cast-t13
     cast-t14
-    add-t16
+    cast-t15
+    add-t17
     goal-follows-requires
     returns)

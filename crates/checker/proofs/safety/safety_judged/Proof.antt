@@ -1,7 +1,7 @@
 -- Each instruction by its own test. Assumes nothing.
 use mathlib.Core.Path.{subst}
 use Rattle.model.specs.Check.{safetyJudged}
-use Rattle.model.proofs.Limits.{Limited}
+use Rattle.model.specs.Limited.{Limited}
 use borrow.Author.Needs.{needs}
 use Rattle.checker.proofs.safety.safety_judged.Statement.{statement}
 use Rattle.checker.proofs.safety.safety_judged.Tie as tie

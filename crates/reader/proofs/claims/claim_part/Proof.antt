@@ -1,10 +1,7 @@
-use Prim.Native.Nat.{_<_}
-use mathlib.Core.Path.{_∙_}
-use native.Mathlib.Omega.{arith}
-use lib.ListN.{length-replicate}
+-- The part of a listing that is read, or none. Assumes nothing.
+use Rattle.model.specs.Listing.{listingOf}
+use Rattle.reader.proofs.Parts.{none-refused, none-past, point-placed, part-read}
 use borrow.Author.Needs.{needs}
-use Rattle.reader.proofs.Keeping.{no-places}
-use Rattle.reader.proofs.Parts.{none-refused, none-past, part}
 use Rattle.reader.proofs.claims.claim_part.Statement.{statement}
 use Rattle.reader.proofs.claims.claim_part.Tie as tie
 
@@ -15,7 +12,7 @@ slice-aggregate-read-listing-2 : tie.Need-slice-aggregate-read-listing-2
 slice-aggregate-read-listing-2 c = search needs
 
 read-listing-requires : tie.Need-read-listing-requires
-read-listing-requires c κs = record { lines = λ short. rw length-replicate (omega arith); places = no-places _ }
+read-listing-requires c κs = search needs
 
 enum-known-j : tie.Need-enum-known-j
 enum-known-j c = search needs
@@ -26,36 +23,25 @@ no-part-requires c κs = search needs
 enum-told : tie.Need-enum-told
 enum-told c = search needs
 
-slice-aggregate-point-at : tie.Need-slice-aggregate-point-at
-slice-aggregate-point-at c = search needs
-
-slice-aggregate-point-at-2 : tie.Need-slice-aggregate-point-at-2
-slice-aggregate-point-at-2 c = search needs
-
-point-at-requires : tie.Need-point-at-requires
-point-at-requires c κs =
-    let inside : c .before .before .before .before .before .before .before .before .before .before .before .before .args .point < c .before .before .before .before .before .before .before .before .read-listing .result .count = omega arith in
-    (part _ _ _ _ (c .before .before .before .before .before .before .before .before .read-listing .ensures) _ (c .before .before .before .before .enum-told .given .1) inside .held, inside)
+slice-aggregate-part-of : tie.Need-slice-aggregate-part-of
+slice-aggregate-part-of c = search needs
 
 part-of-requires : tie.Need-part-of-requires
 part-of-requires c κs =
-    let inside : c .before .before .before .before .before .before .before .before .before .before .before .before .before .args .point < c .before .before .before .before .before .before .before .before .before .read-listing .result .count = omega arith in
-    let q = part _ _ _ _ (c .before .before .before .before .before .before .before .before .before .read-listing .ensures) _ (c .before .before .before .before .before .enum-told .given .1) inside in
-    rw (c .point-at .ensures) (q .before, q .few)
+    let q = point-placed (listingOf (c .before .before .before .before .before .before .before .before .before .before .before .args .listing .now)) _ _ _ _ (c .before .before .before .before .before .before .before .read-listing .ensures) (c .before .before .before .enum-told .given .1) (c .before .if1 .taken) in
+    (q .places, q .few, q .point .before, q .point .last)
 
 returns : tie.Need-returns
-returns c =
-    let inside : c .before .before .before .before .before .before .before .before .before .before .before .before .before .before .args .point < c .before .before .before .before .before .before .before .before .before .before .read-listing .result .count = omega arith in
-    c .part-of .ensures ∙ rw (c .before .point-at .ensures) (part _ _ _ _ (c .before .before .before .before .before .before .before .before .before .before .read-listing .ensures) _ (c .before .before .before .before .before .before .enum-told .given .1) inside .is)
+returns c = part-read _ _ _ _ (c .before .before .before .before .before .before .before .before .read-listing .ensures) _ _ (c .before .before .before .before .enum-told .given .1) (c .before .before .if1 .taken) (c .part-of .ensures _)
 
 no-part-requires-2 : tie.Need-no-part-requires-2
 no-part-requires-2 c κs = search needs
 
 returns-2 : tie.Need-returns-2
-returns-2 c = c .no-part .ensures ∙ none-refused _ _ _ _ (c .before .before .before .before .before .before .read-listing .ensures) _ _ (c .before .before .j .given .1)
+returns-2 c = none-refused _ _ _ _ (c .before .before .before .before .before .before .read-listing .ensures) _ _ _ (c .before .before .j .given .1) (c .no-part .ensures)
 
 returns-3 : tie.Need-returns-3
-returns-3 c = c .no-part2 .ensures ∙ none-past _ _ _ _ (c .before .before .before .before .before .before .before .read-listing .ensures) _ (c .before .before .before .enum-told .given .1) (c .before .if1 .left)
+returns-3 c = none-past _ _ _ _ (c .before .before .before .before .before .before .before .read-listing .ensures) _ _ (c .before .before .before .enum-told .given .1) (c .before .if1 .left) (c .no-part2 .ensures)
 
 pub claim-part-spec : {M : Type 1} → statement M
 claim-part-spec =
@@ -67,9 +53,7 @@ claim-part-spec =
     enum-known-j
     no-part-requires
     enum-told
-    slice-aggregate-point-at
-    slice-aggregate-point-at-2
-    point-at-requires
+    slice-aggregate-part-of
     part-of-requires
     returns
     no-part-requires-2

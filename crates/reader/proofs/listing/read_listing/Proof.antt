@@ -1,22 +1,38 @@
+-- The lines are read, then judged as a whole. Assumes nothing.
+use Prim.Native.Nat.{_/_}
 use mathlib.Core.Path.{refl, sym, _∙_}
+use lib.ListN.{length}
+use borrow.Author.Tests.{not-true, not-false}
+use Rattle.model.specs.Limits.{lineBytes}
+use Rattle.model.specs.Listing.{readTo}
+use Rattle.reader.proofs.Listings.{all-read, stands-turned, stands-going, listing-good, listing-bad, good-lines}
 use borrow.Author.Needs.{needs}
-use Rattle.reader.proofs.Listings.{good-lines, good-short, listing-good, listing-bad}
 use Rattle.reader.proofs.listing.read_listing.Statement.{statement}
 use Rattle.reader.proofs.listing.read_listing.Tie as tie
 
 is-good-length-requires : tie.Need-is-good-length-requires
 is-good-length-requires c κs = search needs
 
+returns : tie.Need-returns
+returns c = rw (listing-bad _ (sym (c .before .is-good-length .ensures) ∙ not-true _ (c .if1 .taken))) refl
+
 read-lines-requires : tie.Need-read-lines-requires
 read-lines-requires c κs =
-    let good = sym (c .before .before .before .is-good-length .ensures) ∙ c .before .before .if1 .taken in
-    let g = good-lines _ good in
-    ((g .1, g .2), (c .before .before .before .before .before .before .before .pre .lines (good-short _ good), c .before .before .before .before .before .before .before .pre .places))
+    let g = good-lines _ (sym (c .before .before .before .is-good-length .ensures) ∙ not-false _ (c .before .before .if1 .left)) in
+    ((g .few, g .whole), (c .before .before .before .before .before .before .before .pre .lines (g .short), c .before .before .before .before .before .before .before .pre .places))
 
-listing-from-requires : tie.Need-listing-from-requires
-listing-from-requires c κs =
-    let e = c .before .before .before .before .before .before .read-lines .ensures in
-    (good-lines _ (sym (c .before .before .before .before .before .before .before .before .before .before .is-good-length .ensures) ∙ c .before .before .before .before .before .before .before .before .before .if1 .taken) .0, ((e .1 .0, e .1 .1), e .0))
+enum-known-r : tie.Need-enum-known-r
+enum-known-r c = search needs
+
+enum-known-q : tie.Need-enum-known-q
+enum-known-q c = search needs
+
+whole-judged-requires : tie.Need-whole-judged-requires
+whole-judged-requires c κs =
+    let g = good-lines _ (sym (c .before .before .before .before .before .before .before .before .before .before .before .before .before .is-good-length .ensures) ∙ not-false _ (c .before .before .before .before .before .before .before .before .before .before .before .before .if1 .left)) in
+    let e = c .before .before .before .before .before .before .before .before .before .read-lines .ensures in
+    let s = c .before .before .before .before .before .before .before .before .before .before .before .before .before .before .before .before .before .args .listing .now in
+    all-read _ _ _ (readTo s (length s / lineBytes)) _ (e .1) (sym (e .0) ∙ c .before .before .before .q .given .1) (g .some) (c .before .before .before .before .before .before .before .before .before .read-lines .kept .1 .1 .1 .0 ∙ c .before .before .before .before .before .before .before .before .before .before .before .before .before .before .before .before .before .pre .places)
 
 same-length : tie.Need-same-length
 same-length c = search needs
@@ -24,20 +40,37 @@ same-length c = search needs
 same-length-2 : tie.Need-same-length-2
 same-length-2 c = search needs
 
-returns : tie.Need-returns
-returns c = rw (listing-good _ (sym (c .before .before .before .before .before .before .before .before .before .before .before .is-good-length .ensures) ∙ c .before .before .before .before .before .before .before .before .before .before .if1 .taken)) (c .listing-from .ensures)
-
 returns-2 : tie.Need-returns-2
-returns-2 c = rw (listing-bad _ (sym (c .before .is-good-length .ensures) ∙ c .if1 .left)) refl
+returns-2 c =
+    let good = sym (c .before .before .before .before .before .before .before .before .before .before .before .is-good-length .ensures) ∙ not-false _ (c .before .before .before .before .before .before .before .before .before .before .if1 .left) in
+    let e = c .before .before .before .before .before .before .before .read-lines .ensures in
+    stands-turned _ _ (listing-good _ good) _ _ _ _ (sym (e .0) ∙ c .before .r .given .1) refl
+
+same-length-3 : tie.Need-same-length-3
+same-length-3 c = search needs
+
+same-length-4 : tie.Need-same-length-4
+same-length-4 c = search needs
+
+returns-3 : tie.Need-returns-3
+returns-3 c =
+    let good = sym (c .before .before .before .before .before .before .before .before .before .before .before .before .before .before .is-good-length .ensures) ∙ not-false _ (c .before .before .before .before .before .before .before .before .before .before .before .before .before .if1 .left) in
+    let e = c .before .before .before .before .before .before .before .before .before .before .read-lines .ensures in
+    stands-going _ _ (listing-good _ good) _ _ _ _ (e .1) (sym (e .0) ∙ c .before .before .before .before .q .given .1) (c .whole-judged .ensures) refl
 
 pub read-listing-spec : {M : Type 1} → statement M
 read-listing-spec =
     tie.close
     (tie.spec
     is-good-length-requires
+    returns
     read-lines-requires
-    listing-from-requires
+    enum-known-r
+    enum-known-q
+    whole-judged-requires
     same-length
     same-length-2
-    returns
-    returns-2)
+    returns-2
+    same-length-3
+    same-length-4
+    returns-3)

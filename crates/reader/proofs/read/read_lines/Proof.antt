@@ -1,22 +1,20 @@
 -- The loop keeps what was read, the rows and the places equal to the definitions. Assumes nothing.
 use Prim.Native.Nat.{_≤_, _-_}
 use mathlib.Core.Path.{_≡_, refl, _∙_}
-use native.Mathlib.Nat.{not-suc-le-zero}
 use native.Mathlib.Omega.{arith}
 use native.Mathlib.Numerals.{add-one}
 use borrow.Author.Needs.{needs}
 use lib.ListN.{length, length-take, length-drop}
 use Rattle.model.specs.Listing.{readTo}
 use Rattle.decoded.proofs.Written.{row-long}
-use Rattle.reader.specs.Scan.{progressOf, tableTo}
-use Rattle.reader.specs.Kept.{LinesKept, PointsPlaced}
-use Rattle.reader.proofs.Tables.{within, progress-next}
-use Rattle.reader.proofs.Keeping.{line-read, lines-next, places-next}
+use Rattle.reader.specs.Scan.{progressOf}
+use Rattle.reader.specs.Read.{ScannedSo}
+use Rattle.reader.proofs.Keeping.{scanned-none, within, progress-next, lines-next, line-read}
 use Rattle.reader.proofs.read.read_lines.Statement.{statement}
 use Rattle.reader.proofs.read.read_lines.Tie as tie
 
 abbrev Inv-loop : tie.InvT-loop
-Inv-loop listing n rows₀ at₀ p₀ k₀ rows at p k = (k ≤ n) × (length rows ≡ length rows₀) × (length at ≡ length at₀) × LinesKept listing rows k × PointsPlaced at (tableTo listing k) × (p ≡ progressOf (readTo listing k))
+Inv-loop listing n rows₀ at₀ p₀ k₀ rows at p k = (k ≤ n) × (length rows ≡ length rows₀) × (length at ≡ length at₀) × ScannedSo rows at k (readTo listing k) × (p ≡ progressOf (readTo listing k))
 
 abbrev μ-loop : tie.MeasureT-loop
 μ-loop listing n rows₀ at₀ p₀ k₀ rows at p k = n - k
@@ -26,7 +24,7 @@ begin-requires c κs = search needs
 
 loop-holds : tie.Need-loop-holds Inv-loop μ-loop
 unfolding readTo
-loop-holds c = (omega arith, refl, refl, (λ k h. absurd (not-suc-le-zero h)), c .before .before .before .before .pre .1 .1 .points, c .begin .ensures)
+loop-holds c = (omega arith, refl, refl, scanned-none _ _, c .begin .ensures)
 
 mul-a : tie.Need-mul-a Inv-loop μ-loop
 mul-a c = omega arith
@@ -53,10 +51,10 @@ write-row-requires : tie.Need-write-row-requires Inv-loop μ-loop
 write-row-requires c κs = let i = c .before .before .before .before .before .loop .inv .1 in let p = c .before .before .before .before .before .before .before .before .before .before .pre .1 .0 in omega arith
 
 note-requires : tie.Need-note-requires Inv-loop μ-loop
-note-requires c κs = let l = c .before .before .before .before .before .before .before .before .before .loop in (l .inv .2 ∙ c .before .before .before .before .before .before .before .before .before .before .before .before .before .before .pre .1 .1 .long, omega arith, rw (l .inv .5) (within _ _))
+note-requires c κs = let s = c .before .before .before .before .before .before .before .before .before .before .before .before .before .before in let l = c .before .before .before .before .before .before .before .before .before .loop in (l .inv .2 ∙ c .before .before .before .before .before .before .before .before .before .before .before .before .before .before .pre .1 .1, omega arith, rw (l .inv .4) (within (l .rows) (l .at) (l .k) (readTo (s .args .listing .now) (l .k)) (l .inv .3)))
 
 after-requires : tie.Need-after-requires Inv-loop μ-loop
-after-requires c κs = (omega arith, rw (c .before .before .before .before .before .before .before .before .before .before .before .before .loop .inv .5) (within _ _))
+after-requires c κs = let s = c .before .before .before .before .before .before .before .before .before .before .before .before .before .before .before .before .before in let l = c .before .before .before .before .before .before .before .before .before .before .before .before .loop in (omega arith, rw (l .inv .4) (within (l .rows) (l .at) (l .k) (readTo (s .args .listing .now) (l .k)) (l .inv .3)))
 
 add-k : tie.Need-add-k Inv-loop μ-loop
 add-k c = omega arith
@@ -75,9 +73,8 @@ loop-again c =
       omega arith,
       rw (c .before .before .before .before .before .before .before .write-row .ensures) (row-long _ _ _ ∙ l .inv .1),
       c .before .before .before .note .kept .0 ∙ l .inv .2,
-      rw (c .before .before .before .before .before .before .before .write-row .ensures, add-one (l .k)) (lines-next _ _ _ _ (line .row) (omega arith) (l .inv .3)),
-      rw (c .before .before .before .note .ensures, add-one (l .k), line .sort) (places-next _ _ _ (l .inv .2 ∙ a .pre .1 .1 .long) (l .inv .4) (l .p) (l .inv .5)),
-      rw (add-one (l .k), progress-next, c .after .ensures, line .sort, l .inv .5),
+      rw (c .before .before .before .before .before .before .before .write-row .ensures, c .before .before .before .note .ensures, add-one (l .k), line .sort) (lines-next _ _ _ _ (l .p) _ (l .inv .4) (line .row) (omega arith) (omega arith) (l .inv .2 ∙ a .pre .1 .1) (l .inv .3)),
+      rw (add-one (l .k), progress-next, c .after .ensures, line .sort, l .inv .4),
     )
 
 same-length : tie.Need-same-length Inv-loop μ-loop
@@ -91,7 +88,7 @@ returns c =
     let l = c .before .loop in
     let a = c .before .before .before .before .before .before in
     let e : l .k ≡ a .args .n = omega arith in
-    (rw e at (l .inv .5), (record { long = rw (l .inv .1) (a .pre .1 .0); each = rw e at (l .inv .3) }, record { long = l .inv .2 ∙ a .pre .1 .1 .long; points = rw e at (l .inv .4) }))
+    (rw e at (l .inv .4), rw e at (l .inv .3))
 
 pub read-lines-spec : {M : Type 1} → statement M
 read-lines-spec =

@@ -1,0 +1,21 @@
+-- The rows of the claims are those before the point's line. Assumes nothing.
+use borrow.Author.Needs.{needs}
+use Rattle.reader.proofs.facts.facts_at.Statement.{statement}
+use Rattle.reader.proofs.facts.facts_at.Tie as tie
+
+first-of-requires : tie.Need-first-of-requires
+first-of-requires c κs = search needs
+
+claims-of-requires : tie.Need-claims-of-requires
+claims-of-requires c κs = search needs
+
+facts-of-requires : tie.Need-facts-of-requires
+facts-of-requires c κs =
+    let s = c .before .before .before .before .before .before .before in
+    rw (c .before .before .before .claims-of .ensures, c .before .before .before .before .first-of .ensures) (s .pre .0 .point .claims, s .pre .1)
+
+returns : tie.Need-returns
+returns c = rw (← c .before .before .before .before .before .first-of .ensures, ← c .before .before .before .before .claims-of .ensures) (c .facts-of .ensures)
+
+pub facts-at-spec : {M : Type 1} → statement M
+facts-at-spec = tie.close (tie.spec first-of-requires claims-of-requires facts-of-requires returns)
