@@ -8,13 +8,14 @@ use mathlib.Core.List.{List}
 use lib.Dec.{eqb}
 use lib.IntN.{ℤ, pos, negsuc}
 use Rattle.model.specs.declared.answers.Report.{Report}
-use Rattle.model.specs.declared.answers.Report.the-variants.{Stopped, Paused, Refused as notRun}
+use Rattle.model.specs.declared.answers.Report.the-variants.{Stopped, Paused, Refused as refusedRun}
+use Rattle.model.specs.Machine.{lent}
 use Rattle.model.specs.Run.{Ran, run}
 use Rattle.saved.specs.declared.numbers.Parsed.{Parsed}
 use Rattle.saved.specs.declared.numbers.Parsed.the-variants.{Number, NoNumber}
 use Rattle.saved.specs.Numbers.{numberIn}
 use Rattle.saved.specs.States.{savedIn, textOf}
-use Rattle.saved.specs.Answer.{answerLine}
+use Rattle.output.specs.RunLine.{answerLine}
 
 -- n bytes are the whole of a file: it ended there, or it fills the buffer, which no listing, table or state may do
 abbrev pub isWhole : ℤ → ℕ → ℕ → Bool
@@ -33,7 +34,7 @@ isNumber NoNumber = false
 
 -- the run of a listing over trays and results, from the state of a text, with the budget of an argument
 abbrev pub runOf : List ℕ → List ℕ → List ℕ → List ℕ → List ℕ → Ran
-runOf listing trays results text amount = run listing (savedIn text .state) trays results (stepsOf (numberIn amount))
+runOf listing trays results text amount = run listing (savedIn text .state) (lent trays results) (stepsOf (numberIn amount))
 
 -- the line that is printed for a run
 abbrev pub lineOf : Ran → List ℕ
@@ -43,17 +44,17 @@ lineOf r = answerLine (r .outcome .report) (r .outcome .state .point) (r .outcom
 abbrev pub isMade : Report → Bool
 isMade Stopped = true
 isMade Paused = true
-isMade (notRun r) = false
+isMade (refusedRun r) = false
 
 -- what a run leaves: whether it was made, the bytes of the results, the text of the state, and the line
 pub record Leaves (r : Ran) (made : Bool) (rs text line : List ℕ) : Type 0 where
   pub told : made ≡ isMade (r .outcome .report)
-  pub results : rs ≡ r .results
+  pub results : rs ≡ r .tables .results
   pub state : text ≡ textOf (r .outcome .state)
   pub answer : line ≡ lineOf r
 
 -- what is saved, of a run that was made: the bytes of the results, and the text of the state
 pub record Saves (r : Ran) (rs text : List ℕ) : Type 0 where
   pub made : isMade (r .outcome .report) ≡ true
-  pub results : rs ≡ r .results
+  pub results : rs ≡ r .tables .results
   pub state : text ≡ textOf (r .outcome .state)

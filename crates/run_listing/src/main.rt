@@ -10,7 +10,7 @@ use crate::files::say;
 use libc::STDERR_FILENO;
 use libc::STDOUT_FILENO;
 use model::answers::Report;
-use saved::answer::answer_line;
+use output::run_line::answer_line;
 use saved::names::beside;
 use saved::numbers::Parsed;
 use saved::numbers::parse;

@@ -1,12 +1,13 @@
 -- The values meet the facts of a point: the ranges first, then the stripes one by one. Assumes nothing.
 use Prim.Native.Nat.{ℕ, _+_}
-use mathlib.Core.Bool.{Bool, true, false, _&&_}
-use mathlib.Core.List.{List, [], _∷_, _++_}
+use mathlib.Core.Bool.{true, false, _&&_}
+use mathlib.Core.List.{List}
 use mathlib.Core.Path.{_≡_, refl, sym, ap, _∙_}
 use lib.ListN.{getD}
 use lib.Dec.{leb}
 use Rattle.model.specs.Lists.{every}
 use Rattle.model.specs.Facts.{Facts, inRange, stripeHolds, meets}
+use Rattle.model.proofs.Lists.{every-snoc}
 use Rattle.goals.specs.Rows.{stripeAt}
 use Rattle.domain.specs.Known.{rangesOf, stripesOf, Ends}
 use Rattle.domain.proofs.Held.{range-held, stripes-more}
@@ -16,19 +17,6 @@ use Rattle.runner.specs.Meets.{inOwnRange, inRanges}
 -- a variable tested against the ends that the arrays hold
 pub own-range : (vs low high : List ℕ) (v : ℕ) → Ends low high → (leb (getD low v 0) (getD vs v 0) && leb (getD vs v 0) (getD high v 0)) ≡ inOwnRange vs (rangesOf low high) v
 own-range vs low high v h = sym (ap (inRange (getD vs v 0)) (range-held low high v (ends-even low high h)))
-
-and-true : (b : Bool) → b ≡ (b && true)
-and-true true = refl
-and-true false = refl
-
-and-assoc : (a b c : Bool) → (a && (b && c)) ≡ ((a && b) && c)
-and-assoc true b c = refl
-and-assoc false b c = refl
-
-every-snoc : {A : Type 0} (p : A → Bool) (l : List A) (x : A) → (every p l && p x) ≡ every p (l ++ (x ∷ []))
-unfolding every
-every-snoc p [] x = and-true (p x)
-every-snoc p (y ∷ l) x = sym (and-assoc (p y) (every p l) (p x)) ∙ ap (λ (b : Bool). p y && b) (every-snoc p l x)
 
 pub every-none : (vs rows : List ℕ) → true ≡ every (stripeHolds vs) (stripesOf rows 0)
 unfolding every stripesOf

@@ -1,91 +1,70 @@
--- 15 to 17 for a state, over the points as the code looks them up. Assumes nothing.
-use Prim.Native.Nat.{ℕ, _/_, _≤_, _<_}
-use mathlib.Core.Bool.{Bool, true, false, _&&_, _||_, cond}
-use mathlib.Core.List.{List}
-use mathlib.Core.Path.{_≡_, refl, sym, ap, subst, _∙_}
+-- 15 to 17 for a state. Assumes nothing.
+use Prim.Native.Nat.{ℕ, _+_, _≤_, _<_}
+use mathlib.Core.Bool.{Bool, true, false, not, _&&_, cond}
+use mathlib.Core.List.{List, [], _∷_}
+use mathlib.Core.Path.{_≡_, refl, sym, ap, _∙_}
 use native.Mathlib.Omega.{arith}
-use lib.Dec.{ltb, leb}
-use lib.ListN.{length}
-use borrow.Author.Tests.{ltb-true, ltb-false, leb-true, le-leb, lt-leb, lt-ltb, le-ltb}
+use lib.ListN.{length, getD, take}
+use lib.Seq.{take-suc}
+use native.Mathlib.Numerals.{add-one}
+use borrow.Author.Tests.{leb-true, lt-ltb, le-ltb}
+use Rattle.model.specs.Limits as Limits
 use Rattle.model.specs.declared.machine.State.{State}
-use Rattle.model.specs.declared.claims.Claim.{Claim}
 use Rattle.model.specs.declared.answers.Judgement.the-variants.{Accepted, Refused as refused}
 use Rattle.model.specs.declared.answers.Refusal.the-variants.{TableLength, NoSuchPoint, ClaimsNotMet}
 use Rattle.model.specs.Answers.{_andThen_}
+use Rattle.model.specs.Limits.{greatestSize}
+use Rattle.model.specs.Lists.{every}
 use Rattle.model.specs.Facts.{factsOf, meets}
-use Rattle.model.specs.Listing.{Point, pointAt, readAs, listingOf, pointsOf, pointExists}
+use Rattle.model.specs.Listing.{Point, pointExists}
 use Rattle.model.specs.Machine.{valuesFrom}
-use Rattle.model.specs.Run.{meetsClaims, tablesFit, claimsMet}
-use Rattle.model.proofs.Tests.{and-left, and-right, or-cases, or-false}
+use Rattle.model.specs.Run.{meetsClaims, sizeFits, tablesFit, claimsMet, stateJudged}
+use Rattle.model.proofs.Lists.{every-snoc, every-at}
 use Rattle.model.proofs.Reading.{both-accepted, test-passed}
-use Rattle.reader.specs.declared.scan.Point as code
-use Rattle.reader.specs.Scan.{coded, claimsIn, tableTo}
-use Rattle.reader.specs.Whole.{tableAt}
-use Rattle.reader.specs.Listing.{firstOf, PointLines}
-use Rattle.reader.proofs.Listings.{listing-points, point-lines}
-use Rattle.runner.specs.Runs.{stateJudged}
+use Rattle.reader.specs.Points.{pointIn, pointsIn}
+use Rattle.reader.proofs.Points.{points-count, points-at}
 
--- the point that the code looks up is the listing's
-pub record InTable (s : List ℕ) (p : ℕ) (q : code.Point) : Type 0 where
-  pub few : p < 512
-  pub instruction : q .instruction ≡ pointAt (pointsOf (listingOf s)) p .instruction
-  pub lines : PointLines s (length s / 40) q
-  pub claims : claimsIn s (firstOf q) (q .claims) ≡ pointAt (pointsOf (listingOf s)) p .claims
+-- the first i sizes, tested
+pub sizes-none : (sizes : List ℕ) → true ≡ every sizeFits (take 0 sizes)
+unfolding every
+sizes-none sizes = refl
 
-pub in-table : (s : List ℕ) (p : ℕ) (q : code.Point) → listingOf s ≡ readAs (pointsOf (listingOf s)) → p < length (pointsOf (listingOf s)) → q ≡ tableAt (tableTo s (length s / 40)) p → InTable s p q
-in-table s p q read i is =
-    let ps = pointsOf (listingOf s) in
-    let all = listing-points s ps read in
-    let few = all .few in
-    let same : q ≡ coded (pointAt ps p) = is ∙ all .read .table p i (omega arith) in
-    record {
-      few = omega arith;
-      instruction = ap (λ (x : code.Point). x .instruction) same;
-      lines = subst (PointLines s (length s / 40)) (sym is) (point-lines s (length s / 40) ps (all .claims) (all .read) p i (omega arith));
-      claims = rw same (all .read .each p i .gathered);
-    }
+pub sizes-more : (sizes : List ℕ) (i : ℕ) → i < length sizes → (every sizeFits (take i sizes) && sizeFits (getD sizes i 0)) ≡ every sizeFits (take (i + 1) sizes)
+sizes-more sizes i h = every-snoc sizeFits (take i sizes) (getD sizes i 0) ∙ ap (every sizeFits) (sym (take-suc sizes i 0 h) ∙ rw add-one)
 
-pub tested : {vs vs′ : List ℕ} {cs cs′ : List Claim} → vs ≡ vs′ → cs ≡ cs′ → meets vs (factsOf cs) ≡ meets vs′ (factsOf cs′)
-tested e f = rw (e, f)
+-- a size that is not too long
+pub size-small : (sizes : List ℕ) (i : ℕ) → every sizeFits sizes ≡ true → i < length sizes → getD sizes i 0 ≤ greatestSize
+size-small sizes i e h = leb-true _ _ (every-at sizeFits sizes 0 i e h)
 
--- a table is too long, or none is
-long-table : (n m : ℕ) → (ltb 65536 n || ltb 65536 m) ≡ true → tablesFit n m ≡ refused TableLength
-long-table n m e = or-cases (ltb 65536 n) (ltb 65536 m) e (λ t. rw (lt-leb n 65536 (ltb-true 65536 n t))) (λ t. second (leb n 65536) (lt-leb m 65536 (ltb-true 65536 m t)))
-  where
-    second : (b : Bool) → leb m 65536 ≡ false → cond (b && leb m 65536) Accepted (refused TableLength) ≡ refused TableLength
-    second true k = rw k
-    second false k = refl
+-- a list of as many sizes as there are tables, by its elements
+pub two-sizes : (l : List ℕ) → length l ≡ Limits.tables → (getD l 0 0 ∷ getD l 1 0 ∷ []) ≡ l
+two-sizes [] e = absurd (omega arith)
+two-sizes (x ∷ []) e = absurd (omega arith)
+two-sizes (x ∷ (y ∷ [])) e = refl
+two-sizes (x ∷ (y ∷ (z ∷ l))) e = absurd (omega arith)
 
-pub short-tables : (n m : ℕ) → (ltb 65536 n || ltb 65536 m) ≡ false → (n ≤ 65536) × (m ≤ 65536)
-short-tables n m e = let (a, b) = or-false (ltb 65536 n) (ltb 65536 m) e in (ltb-false 65536 n a, ltb-false 65536 m b)
+-- over n points that are held
+module _ (rows at : List ℕ) (n : ℕ) (s : State) (sizes : List ℕ) where
+  pub tables-long : every sizeFits sizes ≡ false → refused TableLength ≡ stateJudged (pointsIn rows at n) s sizes
+  tables-long e = sym (rw e)
 
-fitting : (n m : ℕ) → n ≤ 65536 → m ≤ 65536 → tablesFit n m ≡ Accepted
-fitting n m a b = rw (le-leb n 65536 a, le-leb m 65536 b)
+  module _ (short : every sizeFits sizes ≡ true) where
+    pub point-past : n ≤ s .point → refused NoSuchPoint ≡ stateJudged (pointsIn rows at n) s sizes
+    point-past h = sym (rw (short, points-count rows at n, le-ltb (s .point) n h))
 
-module _ (ps : List Point) (s : State) (n m : ℕ) where
-  pub tables-long : (ltb 65536 n || ltb 65536 m) ≡ true → refused TableLength ≡ stateJudged ps s n m
-  tables-long e = sym (rw (long-table n m e))
-
-  module _ (short : (n ≤ 65536) × (m ≤ 65536)) where
-    pub point-past : length ps ≤ s .point → refused NoSuchPoint ≡ stateJudged ps s n m
-    point-past h = sym (rw (fitting n m (short .0) (short .1), le-ltb (s .point) (length ps) h))
-
-    pub claims-tested : s .point < length ps → (b : Bool) → b ≡ meets (valuesFrom (s .registers) n m) (factsOf (pointAt ps (s .point) .claims)) → cond b Accepted (refused ClaimsNotMet) ≡ stateJudged ps s n m
+    pub claims-tested : s .point < n → (vs : List ℕ) → vs ≡ valuesFrom (s .registers) sizes → (b : Bool) → b ≡ meets vs (factsOf (pointIn rows at (s .point) .claims)) → cond b Accepted (refused ClaimsNotMet) ≡ stateJudged (pointsIn rows at n) s sizes
     unfolding meetsClaims
-    claims-tested h b e = sym (rw (fitting n m (short .0) (short .1), lt-ltb (s .point) (length ps) h, ← e))
+    claims-tested h vs v b e = sym (rw (short, points-count rows at n, lt-ltb (s .point) n h, points-at rows at n (s .point) h, ← v, ← e))
 
 -- what is known of a state that nothing turns back
-pub record Met (ps : List Point) (s : State) (n m : ℕ) : Type 0 where
-  pub trays : n ≤ 65536
-  pub results : m ≤ 65536
-  pub claims : meetsClaims ps s n m ≡ true
+pub record Met (ps : List Point) (s : State) (sizes : List ℕ) : Type 0 where
+  pub fit : every sizeFits sizes ≡ true
+  pub claims : meetsClaims ps s sizes ≡ true
 
-pub met : (ps : List Point) (s : State) (n m : ℕ) → stateJudged ps s n m ≡ Accepted → Met ps s n m
-met ps s n m e =
-    let (first, claims) = both-accepted (tablesFit n m andThen pointExists ps (s .point)) (claimsMet ps s n m) e in
-    let fit = test-passed (leb n 65536 && leb m 65536) TableLength (both-accepted (tablesFit n m) (pointExists ps (s .point)) first .0) in
+pub met : (ps : List Point) (s : State) (sizes : List ℕ) → stateJudged ps s sizes ≡ Accepted → Met ps s sizes
+met ps s sizes e =
+    let (first, claims) = both-accepted (tablesFit sizes andThen pointExists ps (s .point)) (claimsMet ps s sizes) e in
     record {
-      trays = leb-true n 65536 (and-left (leb n 65536) (leb m 65536) fit);
-      results = leb-true m 65536 (and-right (leb n 65536) (leb m 65536) fit);
-      claims = test-passed (meetsClaims ps s n m) ClaimsNotMet claims;
+      fit = test-passed (every sizeFits sizes) TableLength (both-accepted (tablesFit sizes) (pointExists ps (s .point)) first .0);
+      claims = test-passed (meetsClaims ps s sizes) ClaimsNotMet claims;
     }

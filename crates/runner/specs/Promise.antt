@@ -10,6 +10,7 @@ use Rattle.model.specs.declared.answers.Verdict.the-variants.{Passed}
 use Rattle.model.specs.declared.answers.Outcome.{Outcome}
 use Rattle.model.specs.Limits.{registers}
 use Rattle.model.specs.Listing.{listingOf, pointsOf}
+use Rattle.model.specs.Machine.{lent}
 use Rattle.model.specs.Check.{check}
 use Rattle.model.specs.Run.{meetsClaims, Ran}
 use Rattle.model.specs.Safety.{Call, Lends, RunsWell, ranOn}
@@ -34,7 +35,7 @@ pub record RunMade : Type 0 where
 
 -- all that it handed back
 abbrev pub handedBack : RunMade → Ran
-handedBack r = record { outcome = outcomeIn (r .answer); trays = r .call .trays; results = r .results }
+handedBack r = record { outcome = outcomeIn (r .answer); tables = lent (r .call .tables .trays) (r .results) }
 
 -- the state that it handed back
 abbrev pub stateAfter : RunMade → State
@@ -45,24 +46,24 @@ abbrev pub Contract : Ran → Answer → List ℕ → Type 0
 Contract r (byValue o) rs = RunByValue r o rs
 Contract r (inPlace e s) rs = RunInPlace r e s rs
 
--- the run was made from the state s: it lent tables of n and m bytes, and the contract of its entry holds
-pub record MadeFrom (l : List ℕ) (n m : ℕ) (s : State) (r : RunMade) : Type 0 where
-  pub lends : Lends n m (r .call)
+-- the run was made from the state s: it lent tables of these sizes, and the contract of its entry holds
+pub record MadeFrom (l sizes : List ℕ) (s : State) (r : RunMade) : Type 0 where
+  pub lends : Lends sizes (r .call)
   pub contract : Contract (ranOn l s (r .call)) (r .answer) (r .results)
 
 -- the runs were made in order, each from the state that the one before handed back
-abbrev pub MadeInOrder : List ℕ → ℕ → ℕ → State → List RunMade → Type 0
-MadeInOrder l n m s [] = Unit {0}
-MadeInOrder l n m s (r ∷ rs) = MadeFrom l n m s r × MadeInOrder l n m (stateAfter r) rs
+abbrev pub MadeInOrder : List ℕ → List ℕ → State → List RunMade → Type 0
+MadeInOrder l sizes s [] = Unit {0}
+MadeInOrder l sizes s (r ∷ rs) = MadeFrom l sizes s r × MadeInOrder l sizes (stateAfter r) rs
 
 -- each of them runs well
-abbrev pub AllRunWell : List ℕ → ℕ → ℕ → State → List RunMade → Type 0
-AllRunWell l n m s [] = Unit {0}
-AllRunWell l n m s (r ∷ rs) = RunsWell (pointsOf (listingOf l)) n m s (r .call) (handedBack r) × AllRunWell l n m (stateAfter r) rs
+abbrev pub AllRunWell : List ℕ → List ℕ → State → List RunMade → Type 0
+AllRunWell l sizes s [] = Unit {0}
+AllRunWell l sizes s (r ∷ rs) = RunsWell (pointsOf (listingOf l)) sizes s (r .call) (handedBack r) × AllRunWell l sizes (stateAfter r) rs
 
 -- the promise
 abbrev pub Promise : Type 0
 Promise =
     (l : List ℕ) (points : ℕ) → check l ≡ Passed points →
-    (n m : ℕ) (s : State) → length (s .registers) ≡ registers → meetsClaims (pointsOf (listingOf l)) s n m ≡ true →
-    (runs : List RunMade) → MadeInOrder l n m s runs → AllRunWell l n m s runs
+    (sizes : List ℕ) (s : State) → length (s .registers) ≡ registers → meetsClaims (pointsOf (listingOf l)) s sizes ≡ true →
+    (runs : List RunMade) → MadeInOrder l sizes s runs → AllRunWell l sizes s runs

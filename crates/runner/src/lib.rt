@@ -3,37 +3,51 @@ mod meets;
 
 use crate::meets::meets;
 use checker::judged_listing;
+use decoded::rows::ROW_NUMBERS;
 use decoded::rows::write_row;
+use goals::sizes::STRIPE_NUMBERS;
 use model::answers::Judgement;
 use model::answers::Outcome;
 use model::answers::Refusal;
 use model::answers::Report;
+use model::limits::GREATEST_POINTS;
+use model::limits::GREATEST_SIZE;
+use model::limits::REGISTERS;
+use model::limits::TABLES;
+use model::limits::VARIABLES;
 use model::machine::State;
-use reader::facts::facts_of;
-use reader::kept::point_at;
-use reader::kept::row_of;
-use reader::listing::first_of;
-use reader::scan::Point;
+use reader::facts::facts_at;
+use reader::places::row_of;
+use reader::sizes::ALL_ROWS;
+use reader::sizes::PLACE_NUMBERS;
+use reader::sizes::SHORT_LISTING;
+use reader::sizes::SHORT_ROWS;
 use steps::fetch::instruction_at;
 use steps::fetch::is_stop;
 use steps::step::step;
 use steps::values::registers_of;
 use steps::values::values_of;
 ghost use mathlib.Core.Path.{_≡_};
+ghost use mathlib.Core.Bool.{true};
 ghost use Prim.Native.Nat.{_*_, _/_, _≤_};
 ghost use lib.ListN.{length, take};
 ghost use Rattle.model.specs.declared.answers.Judgement.the-variants.{Accepted};
-ghost use Rattle.model.specs.declared.answers.Report.the-variants.{Refused as notRun};
-ghost use Rattle.model.specs.Limits.{lineBytes, greatestListing, variables};
+ghost use Rattle.model.specs.declared.answers.Report.the-variants.{Refused as refusedRun};
+ghost use Rattle.model.specs.Limits.{lineBytes, greatestListing, variables, registers};
+ghost use Rattle.model.specs.Lists.{every};
 ghost use Rattle.model.specs.Facts as Facts;
 ghost use Rattle.model.specs.Facts.{factsOf};
 ghost use Rattle.model.specs.Listing.{listingOf, pointsOf};
 ghost use Rattle.model.specs.Check.{listingJudged};
+ghost use Rattle.model.specs.Machine.{lent, sizesOf};
 ghost use Rattle.model.specs.Run as Run;
-ghost use Rattle.reader.specs.Scan.{claimsIn};
-ghost use Rattle.reader.specs.Kept.{Kept, Filled};
-ghost use Rattle.reader.specs.Listing.{firstOf, PointLines};
-ghost use Rattle.runner.specs.Runs.{state, outcome, Held, Gathered, stateJudged, RunByValue, RunInPlace};
+ghost use Rattle.model.specs.Run.{sizeFits};
+ghost use Rattle.reader.specs.Points.{Placed, AllPlaced, Holds, pointIn, pointsIn};
+ghost use Rattle.checker.specs.Judged.{Held};
+ghost use Rattle.runner.specs.Runs.{state, outcome, Gathered, RunByValue, RunInPlace};
+
+// A listing of at most so many points has little code, so that its call does not pay for the longest.
+const FEW_POINTS: usize = 64;
 
 // What a run in place hands back besides the state.
 pub struct Ending {
@@ -41,68 +55,68 @@ pub struct Ending {
     pub steps: u32,
 }
 
-// Whether the values meet the claims of a point.
-fn claims_met<'a>(
-    listing: &'a [u8],
-    rows: &'a [u64],
-    lines: usize,
-    q: Point,
-    values: &'a [u32; 18],
-) -> bool
+// Whether the values meet the claims of point p.
+fn claims_met<'a>(rows: &'a [u64], at: &'a [u16], p: usize, values: &'a [u32; VARIABLES]) -> bool
     requires { ⌜ length (now values) ≡ variables ⌝ }
-    requires { ⌜ Kept (now listing) (now rows) lines ⌝ }
-    requires { ⌜ PointLines (now listing) lines q ⌝ }
-    ensures { λ r. ⌜ r ≡ Facts.meets (now (values .entry)) (factsOf (claimsIn (now (listing .entry)) (firstOf q) (q .claims))) ⌝ }
+    requires { ⌜ Placed (now rows) (now at) p ⌝ }
+    ensures { λ r. ⌜ r ≡ Facts.meets (now (values .entry)) (factsOf (pointIn (now (rows .entry)) (now (at .entry)) p .claims)) ⌝ }
 {
-    let mut low = [0u64; 18];
-    let mut high = [0u64; 18];
-    let mut stripes = [0u64; 60];
-    let from = first_of(q);
-    let n = facts_of(
-        listing,
-        rows,
-        lines,
-        from,
-        q.claims,
-        &mut low,
-        &mut high,
-        &mut stripes,
-    );
+    let mut low = [0u64; VARIABLES];
+    let mut high = [0u64; VARIABLES];
+    let mut stripes = [0u64; STRIPE_NUMBERS];
+    let n = facts_at(rows, at, p, &mut low, &mut high, &mut stripes);
     meets(values, &low, &high, &stripes, n)
 }
 
-// 15 to 17 for a listing that is read, the parts of a state, and tables of n and m bytes.
+// Whether no table is too long.
+fn all_fit(sizes: [usize; TABLES]) -> bool
+    ensures { λ r. ⌜ r ≡ every sizeFits sizes ⌝ }
+{
+    let mut all = true;
+    let mut i = 0;
+    while i < TABLES {
+        all = all & (sizes[i] <= GREATEST_SIZE as usize);
+        i += 1;
+    }
+    all
+}
+
+// 15 to 17 for a listing of so many points, the parts of a state, and tables of these sizes.
 fn state_judged<'a>(
-    listing: &'a [u8],
     rows: &'a [u64],
     at: &'a [u16],
     count: usize,
     point: usize,
-    registers: [u32; 16],
-    n: usize,
-    m: usize,
+    registers: [u32; REGISTERS],
+    sizes: [usize; TABLES],
 ) -> Judgement
-    requires { ⌜ Held (now listing) (now rows) (now at) count ⌝ }
-    ensures { λ r. ⌜ r ≡ stateJudged (pointsOf (listingOf (now (listing .entry)))) (state point registers) n m ⌝ }
+    requires { ⌜ Holds (now rows) (now at) count ⌝ }
+    ensures { λ r. ⌜ r ≡ Run.stateJudged (pointsIn (now (rows .entry)) (now (at .entry)) count) (state point registers) sizes ⌝ }
 {
-    if (65_536 < n) | (65_536 < m) {
+    if !all_fit(sizes) {
         return Judgement::Refused(Refusal::TableLength);
     }
     if count <= point {
         return Judgement::Refused(Refusal::NoSuchPoint);
     }
-    let lines = listing.len() / 40;
-    let q = point_at(listing, rows, at, lines, count, point);
-    let values = values_of(registers, n as u32, m as u32);
-    if claims_met(listing, rows, lines, q, &values) {
+    let values = values_of(registers, words(sizes));
+    if claims_met(rows, at, point, &values) {
         return Judgement::Accepted;
     }
     Judgement::Refused(Refusal::ClaimsNotMet)
 }
 
+// The sizes of tables that are not too long, as values of variables.
+fn words(sizes: [usize; TABLES]) -> [u32; TABLES]
+    requires { ⌜ every sizeFits sizes ≡ true ⌝ }
+    ensures { λ r. ⌜ r ≡ sizes ⌝ }
+{
+    [sizes[0] as u32, sizes[1] as u32]
+}
+
 // What is handed back at a point with these values after so many steps.
-fn ended(report: Report, point: usize, values: [u32; 18], steps: u32) -> Outcome
-    ensures { λ r. ⌜ r ≡ outcome report (state point (take 16 values)) steps ⌝ }
+fn ended(report: Report, point: usize, values: [u32; VARIABLES], steps: u32) -> Outcome
+    ensures { λ r. ⌜ r ≡ outcome report (state point (take registers values)) steps ⌝ }
 {
     let registers = registers_of(values);
     Outcome {
@@ -113,21 +127,14 @@ fn ended(report: Report, point: usize, values: [u32; 18], steps: u32) -> Outcome
 }
 
 // Gathers the rows of the first n points, in their order.
-fn gather<'a>(
-    listing: &'a [u8],
-    rows: &'a [u64],
-    at: &'a [u16],
-    lines: usize,
-    n: usize,
-    code: &mut [u64],
-)
-    requires { ⌜ Filled (now listing) (now rows) (now at) lines n ⌝ }
+fn gather<'a>(rows: &'a [u64], at: &'a [u16], n: usize, code: &mut [u64])
+    requires { ⌜ AllPlaced (now rows) (now at) n ⌝ }
     requires { ⌜ n * 8 ≤ length (now code) ⌝ }
-    ensures { λ _. ⌜ Gathered (now (listing .entry)) lines n (now (code .exit)) ⌝ }
+    ensures { λ _. ⌜ Gathered (now (rows .entry)) (now (at .entry)) n (now (code .exit)) ⌝ }
 {
     let mut p = 0;
     while p < n {
-        let r = row_of(listing, rows, at, lines, n, p);
+        let r = row_of(rows, at, p);
         write_row(code, p, r);
         p += 1;
     }
@@ -141,19 +148,20 @@ fn run_from<'a>(
     count: usize,
     code: &mut [u64],
     start: usize,
-    registers: [u32; 16],
+    registers: [u32; REGISTERS],
     trays: &[u8],
     results: &mut [u8],
     budget: u32,
 ) -> Outcome
     requires { ⌜ Held (now listing) (now rows) (now at) count ⌝ }
     requires { ⌜ listingJudged (listingOf (now listing)) ≡ Accepted ⌝ }
-    requires { ⌜ stateJudged (pointsOf (listingOf (now listing))) (state start registers) (length (now trays)) (length (now results)) ≡ Accepted ⌝ }
+    requires { ⌜ Run.stateJudged (pointsOf (listingOf (now listing))) (state start registers) (sizesOf (lent (now trays) (now results))) ≡ Accepted ⌝ }
     requires { ⌜ count * 8 ≤ length (now code) ⌝ }
-    ensures { λ r. ⌜ RunByValue (Run.run (now (listing .entry)) (state start registers) (now (trays .entry)) (now (results .entry)) budget) r (now (results .exit)) ⌝ }
+    ensures { λ r. ⌜ RunByValue (Run.run (now (listing .entry)) (state start registers) (lent (now (trays .entry)) (now (results .entry))) budget) r (now (results .exit)) ⌝ }
 {
-    gather(listing, rows, at, listing.len() / 40, count, code);
-    let mut values = values_of(registers, trays.len() as u32, results.len() as u32);
+    gather(rows, at, count, code);
+    let sizes = [trays.len(), results.len()];
+    let mut values = values_of(registers, words(sizes));
     let mut point = start;
     let mut made: u32 = 0;
     loop {
@@ -170,29 +178,27 @@ fn run_from<'a>(
 }
 
 // The run of a listing that passes, from the parts of a state.
-// A listing of few points has little code, so that its call does not pay for the longest.
 fn run_passed<'a>(
     listing: &'a [u8],
     rows: &'a [u64],
     at: &'a [u16],
     count: usize,
     start: usize,
-    registers: [u32; 16],
+    registers: [u32; REGISTERS],
     trays: &[u8],
     results: &mut [u8],
     budget: u32,
 ) -> Outcome
     requires { ⌜ Held (now listing) (now rows) (now at) count ⌝ }
     requires { ⌜ listingJudged (listingOf (now listing)) ≡ Accepted ⌝ }
-    ensures { λ r. ⌜ RunByValue (Run.run (now (listing .entry)) (state start registers) (now (trays .entry)) (now (results .entry)) budget) r (now (results .exit)) ⌝ }
+    ensures { λ r. ⌜ RunByValue (Run.run (now (listing .entry)) (state start registers) (lent (now (trays .entry)) (now (results .entry))) budget) r (now (results .exit)) ⌝ }
 {
-    let n = trays.len();
-    let m = results.len();
-    if let Judgement::Refused(r) = state_judged(listing, rows, at, count, start, registers, n, m) {
+    let sizes = [trays.len(), results.len()];
+    if let Judgement::Refused(r) = state_judged(rows, at, count, start, registers, sizes) {
         return turned_back(start, registers, r);
     }
-    if count <= 64 {
-        let mut code = [0u64; 512];
+    if count <= FEW_POINTS {
+        let mut code = [0u64; FEW_POINTS * ROW_NUMBERS];
         return run_from(
             listing,
             rows,
@@ -206,7 +212,7 @@ fn run_passed<'a>(
             budget,
         );
     }
-    let mut code = [0u64; 4096];
+    let mut code = [0u64; GREATEST_POINTS * ROW_NUMBERS];
     run_from(
         listing,
         rows,
@@ -222,8 +228,8 @@ fn run_passed<'a>(
 }
 
 // A run that is turned back hands back the state as it was.
-fn turned_back(point: usize, registers: [u32; 16], r: Refusal) -> Outcome
-    ensures { λ o. ⌜ o ≡ outcome (notRun r) (state point registers) 0 ⌝ }
+fn turned_back(point: usize, registers: [u32; REGISTERS], r: Refusal) -> Outcome
+    ensures { λ o. ⌜ o ≡ outcome (refusedRun r) (state point registers) 0 ⌝ }
 {
     Outcome {
         report: Report::Refused(r),
@@ -237,15 +243,15 @@ fn run_in(
     listing: &[u8],
     rows: &mut [u64],
     start: usize,
-    registers: [u32; 16],
+    registers: [u32; REGISTERS],
     trays: &[u8],
     results: &mut [u8],
     budget: u32,
 ) -> Outcome
     requires { ⌜ (length (now listing) ≤ greatestListing → length (now listing) / lineBytes * 8 ≤ length (now rows)) ⌝ }
-    ensures { λ r. ⌜ RunByValue (Run.run (now (listing .entry)) (state start registers) (now (trays .entry)) (now (results .entry)) budget) r (now (results .exit)) ⌝ }
+    ensures { λ r. ⌜ RunByValue (Run.run (now (listing .entry)) (state start registers) (lent (now (trays .entry)) (now (results .entry))) budget) r (now (results .exit)) ⌝ }
 {
-    let mut at = [0u16; 1026];
+    let mut at = [0u16; PLACE_NUMBERS];
     let l = judged_listing(listing, rows, &mut at);
     let j = l.judgement;
     match j {
@@ -271,11 +277,11 @@ fn run_in(
 // A run that is turned back hands back the state as it was with 0 steps, and leaves every byte of the results.
 // A short listing has few rows, so that its call does not pay for the longest.
 pub fn run(listing: &[u8], state: State, trays: &[u8], results: &mut [u8], budget: u32) -> Outcome
-    ensures { λ r. ⌜ RunByValue (Run.run (now (listing .entry)) state (now (trays .entry)) (now (results .entry)) budget) r (now (results .exit)) ⌝ }
+    ensures { λ r. ⌜ RunByValue (Run.run (now (listing .entry)) state (lent (now (trays .entry)) (now (results .entry))) budget) r (now (results .exit)) ⌝ }
 {
     let registers = state.registers;
-    if listing.len() <= 2560 {
-        let mut rows = [0u64; 512];
+    if listing.len() <= SHORT_LISTING {
+        let mut rows = [0u64; SHORT_ROWS];
         return run_in(
             listing,
             &mut rows,
@@ -286,7 +292,7 @@ pub fn run(listing: &[u8], state: State, trays: &[u8], results: &mut [u8], budge
             budget,
         );
     }
-    let mut rows = [0u64; 13104];
+    let mut rows = [0u64; ALL_ROWS];
     run_in(
         listing,
         &mut rows,
@@ -306,7 +312,7 @@ pub fn run_in_place(
     results: &mut [u8],
     budget: u32,
 ) -> Ending
-    ensures { λ r. ⌜ RunInPlace (Run.run (now (listing .entry)) (now (state .entry)) (now (trays .entry)) (now (results .entry)) budget) r (now (state .exit)) (now (results .exit)) ⌝ }
+    ensures { λ r. ⌜ RunInPlace (Run.run (now (listing .entry)) (now (state .entry)) (lent (now (trays .entry)) (now (results .entry))) budget) r (now (state .exit)) (now (results .exit)) ⌝ }
 {
     let o = run(listing, *state, trays, results, budget);
     *state = o.state;

@@ -1,12 +1,14 @@
 // Refusal 17: whether the values of all variables meet the facts of a point.
+use goals::sizes::STRIPE_NUMBERS;
+use model::limits::VARIABLES;
 ghost use mathlib.Core.Path.{_≡_};
 ghost use Prim.Native.Nat.{_*_, _≤_, _<_};
 ghost use lib.ListN.{length};
-ghost use Rattle.model.specs.Limits.{variables, MAX, greatestBound};
+ghost use Rattle.model.specs.Limits.{variables, MAX, greatestBound, greatestScale};
 ghost use Rattle.model.specs.Lists.{every};
 ghost use Rattle.model.specs.Facts as Model;
 ghost use Rattle.model.specs.Facts.{valueAt, stripeHolds};
-ghost use Rattle.goals.specs.Sizes.{stripesAlong, Numbers};
+ghost use Rattle.goals.specs.Sizes.{edgeStripes, Numbers};
 ghost use Rattle.goals.specs.Rows.{stripeAt};
 ghost use Rattle.domain.specs.Known.{rangesOf, stripesOf, known, Ends, Bytes, Standing, AtPoint};
 ghost use Rattle.runner.specs.Meets.{inOwnRange, inRanges};
@@ -19,8 +21,13 @@ fn wide(x: u32) -> u64
 }
 
 // Whether a variable lies in its range.
-fn in_range<'a>(values: &'a [u32; 18], low: &'a [u64; 18], high: &'a [u64; 18], v: usize) -> bool
-    requires { ⌜ Ends (now low) (now high) × (v < 18) ⌝ }
+fn in_range<'a>(
+    values: &'a [u32; VARIABLES],
+    low: &'a [u64; VARIABLES],
+    high: &'a [u64; VARIABLES],
+    v: usize,
+) -> bool
+    requires { ⌜ Ends (now low) (now high) × (v < variables) ⌝ }
     ensures { λ b. ⌜ b ≡ inOwnRange (now (values .entry)) (rangesOf (now (low .entry)) (now (high .entry))) v ⌝ }
 {
     let n = wide(values[v]);
@@ -28,13 +35,17 @@ fn in_range<'a>(values: &'a [u32; 18], low: &'a [u64; 18], high: &'a [u64; 18], 
 }
 
 // Whether every variable lies in its range.
-fn in_ranges<'a>(values: &'a [u32; 18], low: &'a [u64; 18], high: &'a [u64; 18]) -> bool
+fn in_ranges<'a>(
+    values: &'a [u32; VARIABLES],
+    low: &'a [u64; VARIABLES],
+    high: &'a [u64; VARIABLES],
+) -> bool
     requires { ⌜ Ends (now low) (now high) ⌝ }
     ensures { λ b. ⌜ b ≡ inRanges (now (values .entry)) (rangesOf (now (low .entry)) (now (high .entry))) ⌝ }
 {
     let mut all = true;
     let mut v = 0;
-    while v < 18 {
+    while v < VARIABLES {
         all = all & in_range(values, low, high, v);
         v += 1;
     }
@@ -42,12 +53,12 @@ fn in_ranges<'a>(values: &'a [u32; 18], low: &'a [u64; 18], high: &'a [u64; 18])
 }
 
 // The value of a variable; of a blank one, 0.
-fn value_at(values: &[u32; 18], v: u64) -> u64
+fn value_at(values: &[u32; VARIABLES], v: u64) -> u64
     requires { ⌜ length (now values) ≡ variables ⌝ }
     ensures { λ r. ⌜ (r ≡ valueAt (now (values .entry)) v) × (r ≤ MAX) ⌝ }
 {
     let i = v as usize;
-    if i < 18 {
+    if i < VARIABLES {
         return wide(values[i]);
     }
     0
@@ -56,16 +67,20 @@ fn value_at(values: &[u32; 18], v: u64) -> u64
 // A scale times the sum of two values.
 fn scaled(a: u64, n: u64) -> u64
     requires { ⌜ (a < 256) × (n ≤ 8589934590) ⌝ }
-    ensures { λ r. ⌜ (r ≡ a * n) × (r ≤ 255 * n) ⌝ }
+    ensures { λ r. ⌜ (r ≡ a * n) × (r ≤ greatestScale * n) ⌝ }
 {
     a * n
 }
 
 // Whether the stripe of the i-th row holds.
-fn stripe_holds<'a>(values: &'a [u32; 18], stripes: &'a [u64; 60], i: usize) -> bool
+fn stripe_holds<'a>(
+    values: &'a [u32; VARIABLES],
+    stripes: &'a [u64; STRIPE_NUMBERS],
+    i: usize,
+) -> bool
     requires { ⌜ length (now values) ≡ variables ⌝ }
-    requires { ⌜ Numbers (stripesAlong * 6) greatestBound (now stripes) ⌝ }
-    requires { ⌜ (i < stripesAlong) × Bytes (stripeAt (now stripes) i) ⌝ }
+    requires { ⌜ Numbers (edgeStripes * 6) greatestBound (now stripes) ⌝ }
+    requires { ⌜ (i < edgeStripes) × Bytes (stripeAt (now stripes) i) ⌝ }
     ensures { λ b. ⌜ b ≡ stripeHolds (now (values .entry)) (stripeAt (now (stripes .entry)) i) ⌝ }
 {
     let at = i * 6;
@@ -76,7 +91,7 @@ fn stripe_holds<'a>(values: &'a [u32; 18], stripes: &'a [u64; 60], i: usize) -> 
 }
 
 // Whether the stripes of the first n rows hold.
-fn all_hold<'a>(values: &'a [u32; 18], stripes: &'a [u64; 60], n: usize) -> bool
+fn all_hold<'a>(values: &'a [u32; VARIABLES], stripes: &'a [u64; STRIPE_NUMBERS], n: usize) -> bool
     requires { ⌜ length (now values) ≡ variables ⌝ }
     requires { ⌜ Standing (now stripes) n ⌝ }
     ensures { λ b. ⌜ b ≡ every (stripeHolds (now (values .entry))) (stripesOf (now (stripes .entry)) n) ⌝ }
@@ -92,10 +107,10 @@ fn all_hold<'a>(values: &'a [u32; 18], stripes: &'a [u64; 60], n: usize) -> bool
 
 // Whether the values meet what the arrays of a point know.
 pub(crate) fn meets<'a>(
-    values: &'a [u32; 18],
-    low: &'a [u64; 18],
-    high: &'a [u64; 18],
-    stripes: &'a [u64; 60],
+    values: &'a [u32; VARIABLES],
+    low: &'a [u64; VARIABLES],
+    high: &'a [u64; VARIABLES],
+    stripes: &'a [u64; STRIPE_NUMBERS],
     n: usize,
 ) -> bool
     requires { ⌜ length (now values) ≡ variables ⌝ }

@@ -1,3 +1,2 @@
-pub mod Accesses
 pub mod Copying
 pub mod Moves

@@ -22,7 +22,7 @@ use model::machine::Instruction;
 ghost use mathlib.Core.Path.{_≡_};
 ghost use Prim.Native.Nat.{_+_, _*_, _≤_};
 ghost use lib.ListN.{length};
-ghost use Rattle.model.specs.Run.{isStop};
+ghost use Rattle.model.specs.Instructions.{isStop};
 ghost use Rattle.decoded.specs.Rows.{rowAt};
 ghost use Rattle.decoded.specs.Decoded.{branchFrom, accessFrom, arithmeticFrom, instructionFrom};
 

@@ -1,26 +1,32 @@
 // One step of the machine, in place. No address and no divisor is tested: a passed listing makes no step that is an error.
-use crate::bytes::load;
-use crate::bytes::store;
 use crate::values::operand_value;
 use crate::values::put;
+use model::limits::VARIABLES;
 use model::machine::Instruction;
 use model::machine::Operand;
 use model::machine::Table;
 use model::machine::Width;
+use operations::arithmetic::address;
+use operations::arithmetic::difference;
+use operations::arithmetic::product;
+use operations::arithmetic::quotient;
+use operations::bytes::load;
+use operations::bytes::store;
 ghost use mathlib.Core.Path.{_≡_};
 ghost use mathlib.Core.Bool.{cond};
 ghost use Prim.Native.Nat.{_+_, _*_, _≤_, _<_};
 ghost use lib.ListN.{length};
 ghost use lib.Dec.{ltb, eqb};
+ghost use Rattle.model.specs.Limits.{greatestPoints, registers, variables};
 ghost use Rattle.model.specs.Facts.{valueAt};
 ghost use Rattle.model.specs.Machine as Machine;
-ghost use Rattle.model.specs.Machine.{operandAt, bytesOf, readBytes, writeBytes, sum};
-ghost use Rattle.model.proofs.Limits.{OperandLimited};
-ghost use Rattle.steps.specs.Stepped.{bytesIn, Written, Steppable, Stepped};
+ghost use Rattle.model.specs.Machine.{lent, tableOf, operandAt, bytesOf, readBytes, writeBytes, sum};
+ghost use Rattle.model.specs.Limited.{OperandLimited};
+ghost use Rattle.steps.specs.Stepped.{Written, Steppable, Stepped};
 
 // COPY: the value of a variable, written.
-fn copy(values: &mut [u32; 18], point: usize, d: usize, i: usize) -> usize
-    requires { ⌜ (point < 512) × (d < 16) × (i < 18) ⌝ }
+fn copy(values: &mut [u32; VARIABLES], point: usize, d: usize, i: usize) -> usize
+    requires { ⌜ (point < greatestPoints) × (d < registers) × (i < variables) ⌝ }
     ensures { λ r. ⌜ Written point d (valueAt (now (values .entry)) i) (now (values .entry)) r (now (values .exit)) ⌝ }
 {
     let x = values[i];
@@ -28,8 +34,8 @@ fn copy(values: &mut [u32; 18], point: usize, d: usize, i: usize) -> usize
 }
 
 // ADDW: the sum, written.
-fn add(values: &mut [u32; 18], point: usize, d: usize, i: usize, o: Operand) -> usize
-    requires { ⌜ (point < 512) × (d < 16) × (i < 18) × OperandLimited o ⌝ }
+fn add(values: &mut [u32; VARIABLES], point: usize, d: usize, i: usize, o: Operand) -> usize
+    requires { ⌜ (point < greatestPoints) × (d < registers) × (i < variables) × OperandLimited o ⌝ }
     ensures { λ r. ⌜ Written point d (sum (valueAt (now (values .entry)) i) (operandAt (now (values .entry)) o)) (now (values .entry)) r (now (values .exit)) ⌝ }
 {
     let x = values[i];
@@ -38,16 +44,9 @@ fn add(values: &mut [u32; 18], point: usize, d: usize, i: usize, o: Operand) -> 
     put(values, d, z, point)
 }
 
-// The difference as registers hold it.
-fn difference(x: u32, y: u32) -> u32
-    ensures { λ r. ⌜ r ≡ Machine.difference x y ⌝ }
-{
-    std::num::wrapping_sub_u32(x, y)
-}
-
 // SUBW: the difference, written.
-fn subtract(values: &mut [u32; 18], point: usize, d: usize, i: usize, o: Operand) -> usize
-    requires { ⌜ (point < 512) × (d < 16) × (i < 18) × OperandLimited o ⌝ }
+fn subtract(values: &mut [u32; VARIABLES], point: usize, d: usize, i: usize, o: Operand) -> usize
+    requires { ⌜ (point < greatestPoints) × (d < registers) × (i < variables) × OperandLimited o ⌝ }
     ensures { λ r. ⌜ Written point d (Machine.difference (valueAt (now (values .entry)) i) (operandAt (now (values .entry)) o)) (now (values .entry)) r (now (values .exit)) ⌝ }
 {
     let x = values[i];
@@ -56,16 +55,9 @@ fn subtract(values: &mut [u32; 18], point: usize, d: usize, i: usize, o: Operand
     put(values, d, z, point)
 }
 
-// The product as registers hold it.
-fn product(x: u32, y: u32) -> u32
-    ensures { λ r. ⌜ r ≡ Machine.product x y ⌝ }
-{
-    ((x as u64) * (y as u64) % 4_294_967_296) as u32
-}
-
 // MULW: the product, written.
-fn multiply(values: &mut [u32; 18], point: usize, d: usize, i: usize, o: Operand) -> usize
-    requires { ⌜ (point < 512) × (d < 16) × (i < 18) × OperandLimited o ⌝ }
+fn multiply(values: &mut [u32; VARIABLES], point: usize, d: usize, i: usize, o: Operand) -> usize
+    requires { ⌜ (point < greatestPoints) × (d < registers) × (i < variables) × OperandLimited o ⌝ }
     ensures { λ r. ⌜ Written point d (Machine.product (valueAt (now (values .entry)) i) (operandAt (now (values .entry)) o)) (now (values .entry)) r (now (values .exit)) ⌝ }
 {
     let x = values[i];
@@ -74,17 +66,9 @@ fn multiply(values: &mut [u32; 18], point: usize, d: usize, i: usize, o: Operand
     put(values, d, z, point)
 }
 
-// The quotient, rounded down.
-fn quotient(x: u32, y: u32) -> u32
-    requires { ⌜ 0 < y ⌝ }
-    ensures { λ r. ⌜ r ≡ Machine.quotient x y ⌝ }
-{
-    x / y
-}
-
 // DIVF: the quotient, written. The divisor is above 0.
-fn divide(values: &mut [u32; 18], point: usize, d: usize, i: usize, o: Operand) -> usize
-    requires { ⌜ (point < 512) × (d < 16) × (i < 18) × OperandLimited o × (0 < operandAt (now values) o) ⌝ }
+fn divide(values: &mut [u32; VARIABLES], point: usize, d: usize, i: usize, o: Operand) -> usize
+    requires { ⌜ (point < greatestPoints) × (d < registers) × (i < variables) × OperandLimited o × (0 < operandAt (now values) o) ⌝ }
     ensures { λ r. ⌜ Written point d (Machine.quotient (valueAt (now (values .entry)) i) (operandAt (now (values .entry)) o)) (now (values .entry)) r (now (values .exit)) ⌝ }
 {
     let x = values[i];
@@ -93,18 +77,10 @@ fn divide(values: &mut [u32; 18], point: usize, d: usize, i: usize, o: Operand) 
     put(values, d, z, point)
 }
 
-// The address of an access, a whole number that is never reduced.
-fn address(a: usize, x: u32, k: usize) -> usize
-    requires { ⌜ a * x + k < 18446744073709551616 ⌝ }
-    ensures { λ r. ⌜ r ≡ Machine.address a x k ⌝ }
-{
-    a * (x as usize) + k
-}
-
 // The number that an access to a table finds.
 fn load_from(b: Table, trays: &[u8], results: &[u8], at: usize, w: Width) -> u32
-    requires { ⌜ at + bytesOf w ≤ length (bytesIn b (now trays) (now results)) ⌝ }
-    ensures { λ r. ⌜ r ≡ readBytes (bytesOf w) (bytesIn b (now (trays .entry)) (now (results .entry))) at ⌝ }
+    requires { ⌜ at + bytesOf w ≤ length (tableOf b (lent (now trays) (now results))) ⌝ }
+    ensures { λ r. ⌜ r ≡ readBytes (bytesOf w) (tableOf b (lent (now (trays .entry)) (now (results .entry)))) at ⌝ }
 {
     match b {
         Table::Trays => load(trays, at, w),
@@ -114,7 +90,7 @@ fn load_from(b: Table, trays: &[u8], results: &[u8], at: usize, w: Width) -> u32
 
 // LOAD: the number found in a table, written. The access lies inside the table.
 fn load_to(
-    values: &mut [u32; 18],
+    values: &mut [u32; VARIABLES],
     point: usize,
     trays: &[u8],
     results: &[u8],
@@ -125,8 +101,8 @@ fn load_to(
     i: usize,
     k: usize,
 ) -> usize
-    requires { ⌜ (point < 512) × (d < 16) × (i < 18) × (Machine.address a (valueAt (now values) i) k + bytesOf w ≤ length (bytesIn b (now trays) (now results))) ⌝ }
-    ensures { λ r. ⌜ Written point d (readBytes (bytesOf w) (bytesIn b (now (trays .entry)) (now (results .entry))) (Machine.address a (valueAt (now (values .entry)) i) k)) (now (values .entry)) r (now (values .exit)) ⌝ }
+    requires { ⌜ (point < greatestPoints) × (d < registers) × (i < variables) × (Machine.address a (valueAt (now values) i) k + bytesOf w ≤ length (tableOf b (lent (now trays) (now results)))) ⌝ }
+    ensures { λ r. ⌜ Written point d (readBytes (bytesOf w) (tableOf b (lent (now (trays .entry)) (now (results .entry)))) (Machine.address a (valueAt (now (values .entry)) i) k)) (now (values .entry)) r (now (values .exit)) ⌝ }
 {
     let x = values[i];
     let at = address(a, x, k);
@@ -136,7 +112,7 @@ fn load_to(
 
 // STOR: the low bytes of a variable, stored in the results. The access lies inside them.
 fn store_from(
-    values: &[u32; 18],
+    values: &[u32; VARIABLES],
     point: usize,
     results: &mut [u8],
     v: usize,
@@ -145,7 +121,7 @@ fn store_from(
     i: usize,
     k: usize,
 ) -> usize
-    requires { ⌜ (point < 512) × (v < 18) × (i < 18) × (Machine.address a (valueAt (now values) i) k + bytesOf w ≤ length (now results)) ⌝ }
+    requires { ⌜ (point < greatestPoints) × (v < variables) × (i < variables) × (Machine.address a (valueAt (now values) i) k + bytesOf w ≤ length (now results)) ⌝ }
     ensures { λ r. ⌜ (r ≡ point + 1) × (now (results .exit) ≡ writeBytes (bytesOf w) (now (results .entry)) (Machine.address a (valueAt (now (values .entry)) i) k) (valueAt (now (values .entry)) v)) ⌝ }
 {
     let x = values[i];
@@ -156,8 +132,8 @@ fn store_from(
 }
 
 // Where BLTU goes.
-fn if_less(values: &[u32; 18], point: usize, i: usize, t: usize, o: Operand) -> usize
-    requires { ⌜ (point < 512) × (i < 18) × OperandLimited o ⌝ }
+fn if_less(values: &[u32; VARIABLES], point: usize, i: usize, t: usize, o: Operand) -> usize
+    requires { ⌜ (point < greatestPoints) × (i < variables) × OperandLimited o ⌝ }
     ensures { λ r. ⌜ r ≡ cond (ltb (valueAt (now (values .entry)) i) (operandAt (now (values .entry)) o)) t (point + 1) ⌝ }
 {
     let x = values[i];
@@ -166,8 +142,8 @@ fn if_less(values: &[u32; 18], point: usize, i: usize, t: usize, o: Operand) -> 
 }
 
 // Where BEQU goes.
-fn if_equal(values: &[u32; 18], point: usize, i: usize, t: usize, o: Operand) -> usize
-    requires { ⌜ (point < 512) × (i < 18) × OperandLimited o ⌝ }
+fn if_equal(values: &[u32; VARIABLES], point: usize, i: usize, t: usize, o: Operand) -> usize
+    requires { ⌜ (point < greatestPoints) × (i < variables) × OperandLimited o ⌝ }
     ensures { λ r. ⌜ r ≡ cond (eqb (valueAt (now (values .entry)) i) (operandAt (now (values .entry)) o)) t (point + 1) ⌝ }
 {
     let x = values[i];
@@ -179,12 +155,12 @@ fn if_equal(values: &[u32; 18], point: usize, i: usize, t: usize, o: Operand) ->
 pub fn step(
     instruction: Instruction,
     point: usize,
-    values: &mut [u32; 18],
+    values: &mut [u32; VARIABLES],
     trays: &[u8],
     results: &mut [u8],
 ) -> usize
-    requires { ⌜ Steppable instruction point (now values) (now trays) (now results) ⌝ }
-    ensures { λ r. ⌜ Stepped instruction (now (trays .entry)) point (now (values .entry)) (now (results .entry)) r (now (values .exit)) (now (results .exit)) ⌝ }
+    requires { ⌜ Steppable instruction point (now values) (lent (now trays) (now results)) ⌝ }
+    ensures { λ r. ⌜ Stepped instruction point (now (values .entry)) (lent (now (trays .entry)) (now (results .entry))) r (now (values .exit)) (lent (now (trays .entry)) (now (results .exit))) ⌝ }
 {
     match instruction {
         Instruction::Stop => point,

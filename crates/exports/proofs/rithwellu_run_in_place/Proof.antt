@@ -44,6 +44,7 @@ use denote.Triple.Table.{entered, cited}
 use denote.Triple.Walked.{says, Stays, stay-ref, stay-none, stay-dropped, gave-ref, gave-slice, walkOf, AllGo, goes-none, goes-ref, goes-dropped, goes-gave-ref, goes-gave-slice, Walks, ends-at, walked, walk-meets}
 use denote.Exit.{yes}
 use Rattle.model.specs.declared.machine.State.{State}
+use Rattle.model.specs.Machine.{lent as tablesLent}
 use Rattle.model.specs.Run as Run
 use Rattle.model.proofs.machine.State as S
 use Rattle.model.proofs.machine.State.Laws as S′
@@ -55,7 +56,7 @@ use Rattle.runner.proofs.run_in_place as placed
 use Rattle.runner.proofs.run_in_place.Symbol as placed-def
 use Rattle.runner.proofs.run_in_place.Symbol.{name as #runner·run-in-place}
 use Rattle.runner.proofs.run_in_place.Met as placed-thm
-use Rattle.exports.specs.Answer.{runAnswer}
+use Rattle.output.specs.Arrays.{runAnswer}
 use Rattle.exports.proofs.set_answer as setting
 use Rattle.exports.proofs.set_answer.Symbol as setting-def
 use Rattle.exports.proofs.set_answer.Symbol.{name as #exports·set-answer}
@@ -134,7 +135,7 @@ module _ {M : Type 1} (𝓤 : URA M) (H : Heap 𝓤) (A : Atoms 𝓤) (W : Given
   Post = walkOf 𝓤 H A lent.ended stayed (lent.clauses 𝓤 H A at-mem run) .post (((κ₀, (κ₁, (κ₂, (κ₃, (κ₄, tt))))), (q₀, (q₁, (q₂, (q₃, (q₄, tt))))), tt, x, at), tt)
 
   abbrev Placed : Ending → State → List ℕ → Type 0
-  Placed e z zs = RunInPlace (Run.run (li .now) h (tr .now) ys n) e z zs
+  Placed e z zs = RunInPlace (Run.run (li .now) h (tablesLent (tr .now) ys) n) e z zs
 
   exits : (e : Ending) (z : State) (zs us : List ℕ) → Placed e z zs → us ≡ runAnswer (e .report) (e .steps) (z .point) → length zs ≡ length ys
       → ent 𝓤 (⋆ 𝓤 H A ((‵ (flft κ₄ q₄) ⊛ ‵ ftrue) ∷ ‵ (fres γ″ (Numbers .coded .code us)) ∷ ‵ (fobs γ (S.the-row .coded .code z)) ∷ ‵ (fbor κ₁ (Body (mem S.the-row) b o γ)) ∷ ‵ (flft κ₁ q₁) ∷ (‵ (flft κ₂ q₂) ⊛ ‵ (flft κ₃ q₃) ⊛ ‵ ftrue) ∷ ‵ (flft κ₀ q₀) ∷ ‵ (finally u8 γ′ zs) ∷ [])) (Post vunit)

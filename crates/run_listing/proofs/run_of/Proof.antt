@@ -2,10 +2,11 @@
 use borrow.Author.Needs.{needs}
 use mathlib.Core.Path.{_≡_, ap, _∙_}
 use Rattle.model.specs.declared.answers.Outcome.{Outcome}
+use Rattle.model.specs.Machine.{lent}
 use Rattle.model.specs.Run.{Ran, run}
 use Rattle.saved.specs.declared.states.Saved.{Saved}
 use Rattle.saved.specs.States.{savedIn, textOf}
-use Rattle.saved.specs.Answer.{answerLine}
+use Rattle.output.specs.RunLine.{answerLine}
 use Rattle.run_listing.specs.Program.{runOf, isMade}
 use Rattle.run_listing.proofs.run_of.Statement.{statement}
 use Rattle.run_listing.proofs.run_of.Tie as tie
@@ -37,13 +38,13 @@ returns c =
     let read = c .before .before .before .before .before .before .before .before .before .before .read-state .ensures in
     let steps = c .before .before .before .before .before .before .before .steps-of in
     let ran = c .before .before .before .before .before .before .run in
-    let same : run (a .listing .now) (c .before .before .before .before .before .before .before .before .before .before .read-state .result .state) (a .trays .now) (a .results .now) (steps .result) ≡ runOf (a .listing .now) (a .trays .now) (a .results .now) (a .text .now) (a .amount .now) =
-    ap (λ (s : Saved). run (a .listing .now) (s .state) (a .trays .now) (a .results .now) (steps .result)) read
-    ∙ ap (run (a .listing .now) (savedIn (a .text .now) .state) (a .trays .now) (a .results .now)) (steps .ensures) in
+    let same : run (a .listing .now) (c .before .before .before .before .before .before .before .before .before .before .read-state .result .state) (lent (a .trays .now) (a .results .now)) (steps .result) ≡ runOf (a .listing .now) (a .trays .now) (a .results .now) (a .text .now) (a .amount .now) =
+    ap (λ (s : Saved). run (a .listing .now) (s .state) (lent (a .trays .now) (a .results .now)) (steps .result)) read
+    ∙ ap (run (a .listing .now) (savedIn (a .text .now) .state) (lent (a .trays .now) (a .results .now))) (steps .ensures) in
     let outcome = ran .ensures .outcome ∙ ap (λ (r : Ran). r .outcome) same in
     record {
       told = c .is-made .ensures ∙ ap (λ (o : Outcome). isMade (o .report)) outcome;
-      results = ran .ensures .results ∙ ap (λ (r : Ran). r .results) same;
+      results = ran .ensures .results ∙ ap (λ (r : Ran). r .tables .results) same;
       state = c .before .write-state .ensures ∙ ap (λ (o : Outcome). textOf (o .state)) outcome;
       answer = c .before .before .answer-line .ensures ∙ ap (λ (o : Outcome). answerLine (o .report) (o .state .point) (o .steps)) outcome;
     }

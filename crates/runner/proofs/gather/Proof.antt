@@ -1,8 +1,9 @@
 -- After p points the code holds their rows. Assumes nothing.
 use Prim.Native.Nat.{_+_, _*_, _-_, _≤_}
-use mathlib.Core.Path.{_≡_, refl, _∙_}
+use mathlib.Core.Path.{_≡_, refl, ap, _∙_}
 use native.Mathlib.Omega.{arith}
 use lib.ListN.{length}
+use Rattle.decoded.specs.Decoded.{instructionFrom}
 use Rattle.decoded.proofs.Written.{row-long}
 use Rattle.runner.specs.Runs.{Gathered}
 use Rattle.runner.proofs.Gathered.{none-gathered, one-gathered}
@@ -10,22 +11,22 @@ use Rattle.runner.proofs.gather.Statement.{statement}
 use Rattle.runner.proofs.gather.Tie as tie
 
 abbrev Inv-loop : tie.InvT-loop
-Inv-loop listing rows places lines n code₀ p₀ code p = (p ≤ n) × (length code ≡ length code₀) × Gathered listing lines p code
+Inv-loop rows at n code₀ p₀ code p = (p ≤ n) × (length code ≡ length code₀) × Gathered rows at p code
 
 abbrev μ-loop : tie.MeasureT-loop
-μ-loop listing rows places lines n code₀ p₀ code p = n - p
+μ-loop rows at n code₀ p₀ code p = n - p
 
 loop-holds : tie.Need-loop-holds Inv-loop μ-loop
 loop-holds c = (omega arith, refl, none-gathered _ _ _)
 
 row-of-requires : tie.Need-row-of-requires Inv-loop μ-loop
-row-of-requires c κs = (c .before .before .before .before .before .before .pre .0, c .loop-test .taken)
+row-of-requires c κs = c .before .before .before .before .before .pre .0 .each _ (c .loop-test .taken)
 
 write-row-requires : tie.Need-write-row-requires Inv-loop μ-loop
-write-row-requires c κs = let room = c .before .before .before .before .before .before .before .before .pre .1 in let long = c .before .before .before .loop .inv .1 in let t = c .before .before .loop-test .taken in omega arith
+write-row-requires c κs = let room = c .before .before .before .before .before .before .before .pre .1 in let long = c .before .before .before .loop .inv .1 in let t = c .before .before .loop-test .taken in omega arith
 
 add-p : tie.Need-add-p Inv-loop μ-loop
-add-p c = let few = c .before .before .before .before .before .before .before .before .before .before .before .pre .0 .few in let t = c .before .before .before .before .before .loop-test .taken in omega arith
+add-p c = let few = c .before .before .before .before .before .before .before .before .before .before .pre .0 .few in let t = c .before .before .before .before .before .loop-test .taken in omega arith
 
 loop-less : tie.Need-loop-less Inv-loop μ-loop
 loop-less c = let t = c .before .before .before .before .before .loop-test .taken in omega arith
@@ -35,9 +36,9 @@ loop-again c =
     let l = c .before .before .before .before .before .before .loop in
     let long = l .inv .1 in
     let t = c .before .before .before .before .before .loop-test .taken in
-    let all = c .before .before .before .before .before .before .before .before .before .before .before .pre .1 in
+    let all = c .before .before .before .before .before .before .before .before .before .before .pre .1 in
     let room : l .p * 8 + 8 ≤ length (l .code) = omega arith in
-    rw (c .before .before .write-row .ensures) (omega arith, row-long (l .code) (l .p) _ ∙ long, one-gathered _ _ _ _ _ room (c .before .before .before .before .row-of .ensures) (l .inv .2))
+    rw (c .before .before .write-row .ensures) (omega arith, row-long (l .code) (l .p) _ ∙ long, one-gathered _ _ _ _ _ room (ap instructionFrom (c .before .before .before .before .row-of .ensures)) (l .inv .2))
 
 same-length : tie.Need-same-length Inv-loop μ-loop
 same-length c = c .before .loop .inv .1
@@ -46,7 +47,7 @@ returns : tie.Need-returns Inv-loop μ-loop
 returns c =
     let l = c .before .loop in
     let within = l .inv .0 in
-    let e : l .p ≡ c .before .before .before .before .before .before .args .n = omega arith in
+    let e : l .p ≡ c .before .before .before .before .before .args .n = omega arith in
     rw e at (l .inv .2)
 
 pub gather-spec : {M : Type 1} → statement M

@@ -1,6 +1,6 @@
 use mathlib.Core.Path.{sym, _∙_}
 use borrow.Author.Needs.{needs}
-use Rattle.reader.proofs.Keeping.{no-places}
+use Rattle.model.specs.Machine.{lent}
 use Rattle.runner.specs.Runs.{state}
 use Rattle.runner.proofs.Running.{passed, listing-refused}
 use Rattle.runner.proofs.run_in.Statement.{statement}
@@ -10,7 +10,7 @@ slice-aggregate-judged-listing : tie.Need-slice-aggregate-judged-listing
 slice-aggregate-judged-listing c = search needs
 
 judged-listing-requires : tie.Need-judged-listing-requires
-judged-listing-requires c κs = record { lines = c .before .before .before .before .before .before .pre; places = no-places _ }
+judged-listing-requires c κs = record { lines = c .before .before .before .before .before .before .pre; places = search needs }
 
 enum-known-j : tie.Need-enum-known-j
 enum-known-j c = search needs
@@ -33,7 +33,7 @@ same-length c = search needs
 returns : tie.Need-returns
 returns c =
     let s = c .before .before .before .before .before .before .before .before .before .before .before .before .before .before in
-    let r = listing-refused (s .args .listing .now) (state (s .args .start) (s .args .registers)) (s .args .trays .now) (s .args .results .now) (s .args .budget) _ (sym (c .before .before .before .before .before .before .before .judged-listing .ensures .judgement) ∙ c .before .before .j .given .1) in
+    let r = listing-refused (s .args .listing .now) (state (s .args .start) (s .args .registers)) (lent (s .args .trays .now) (s .args .results .now)) (s .args .budget) _ (sym (c .before .before .before .before .before .before .before .judged-listing .ensures .judgement) ∙ c .before .before .j .given .1) in
     record { outcome = c .turned-back .ensures ∙ r .outcome; results = r .results }
 
 same-length-2 : tie.Need-same-length-2

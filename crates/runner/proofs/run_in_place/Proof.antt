@@ -42,6 +42,7 @@ use denote.Triple.Walked.{says, Stays, stay-ref, stay-none, stay-dropped, gave-s
 use denote.Exit.{yes}
 use Rattle.model.specs.declared.machine.State.{State}
 use Rattle.model.specs.declared.answers.Outcome.{Outcome}
+use Rattle.model.specs.Machine.{lent as tablesLent}
 use Rattle.model.specs.Run as Run
 use Rattle.model.proofs.machine.State as S
 use Rattle.model.proofs.machine.State.Laws as S′
@@ -108,7 +109,7 @@ module _ {M : Type 1} (𝓤 : URA M) (H : Heap 𝓤) (A : Atoms 𝓤) (W : Given
   Post = walkOf 𝓤 H A lent.ended stayed (lent.clauses 𝓤 H A at-mem run) .post (((κ₀, (κ₁, (κ₂, (κ₃, tt)))), (q₀, (q₁, (q₂, (q₃, tt)))), tt, x, at), tt)
 
   abbrev Ran : Outcome → List ℕ → Type 0
-  Ran r zs = RunByValue (Run.run (li .now) h (tr .now) ys n) r zs
+  Ran r zs = RunByValue (Run.run (li .now) h (tablesLent (tr .now) ys) n) r zs
 
   -- what whoever holds an outcome knows of its parts
   state-is : (r : Outcome) (vs : List Val) → Is O.the-row r vs → Is S.the-row (r .state) (vals (r .state))

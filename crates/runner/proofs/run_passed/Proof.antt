@@ -1,12 +1,13 @@
 use mathlib.Core.Path.{sym, _∙_}
+use Rattle.model.specs.Machine.{lent}
 use Rattle.runner.specs.Runs.{state}
-use Rattle.runner.proofs.Running.{state-refused}
+use Rattle.runner.proofs.Running.{state-held, state-refused}
 use borrow.Author.Needs.{needs}
 use Rattle.runner.proofs.run_passed.Statement.{statement}
 use Rattle.runner.proofs.run_passed.Tie as tie
 
 state-judged-requires : tie.Need-state-judged-requires
-state-judged-requires c κs = search needs
+state-judged-requires c κs = c .before .before .before .before .before .pre .0 .holds
 
 enum-known-r : tie.Need-enum-known-r
 enum-known-r c = search needs
@@ -17,7 +18,7 @@ turned-back-requires c κs = search needs
 returns : tie.Need-returns
 returns c =
     let s = c .before .before .before .before .before .before .before .before .before .before in
-    let r = state-refused (s .args .listing .now) (state (s .args .start) (s .args .registers)) (s .args .trays .now) (s .args .results .now) (s .args .budget) (s .pre .1) _ (sym (c .before .before .before .before .state-judged .ensures) ∙ c .before .before .r .given .1) in
+    let r = state-refused (s .args .listing .now) (state (s .args .start) (s .args .registers)) (lent (s .args .trays .now) (s .args .results .now)) (s .args .budget) (s .pre .1) _ (sym (c .before .before .before .before .state-judged .ensures ∙ state-held _ _ _ _ (s .pre .0) _ _) ∙ c .before .before .r .given .1) in
     record { outcome = c .turned-back .ensures ∙ r .outcome; results = r .results }
 
 enum-told : tie.Need-enum-told
@@ -29,7 +30,7 @@ slice-aggregate-run-from c = search needs
 run-from-requires : tie.Need-run-from-requires
 run-from-requires c κs =
     let s = c .before .before .before .before .before .before .before .before .before .before .before in
-    (s .pre .0, (s .pre .1, (sym (c .before .before .before .before .before .state-judged .ensures) ∙ c .before .before .before .enum-told .given .1, search needs)))
+    (s .pre .0, (s .pre .1, (sym (c .before .before .before .before .before .state-judged .ensures ∙ state-held _ _ _ _ (s .pre .0) _ _) ∙ c .before .before .before .enum-told .given .1, search needs)))
 
 same-length : tie.Need-same-length
 same-length c = search needs
@@ -43,8 +44,8 @@ slice-aggregate-run-from-2 c = search needs
 run-from-requires-2 : tie.Need-run-from-requires-2
 run-from-requires-2 c κs =
     let s = c .before .before .before .before .before .before .before .before .before .before .before in
-    let few = s .pre .0 .filled .few in
-    (s .pre .0, (s .pre .1, (sym (c .before .before .before .before .before .state-judged .ensures) ∙ c .before .before .before .enum-told .given .1, search needs)))
+    let few = s .pre .0 .holds .all .few in
+    (s .pre .0, (s .pre .1, (sym (c .before .before .before .before .before .state-judged .ensures ∙ state-held _ _ _ _ (s .pre .0) _ _) ∙ c .before .before .before .enum-told .given .1, search needs)))
 
 same-length-2 : tie.Need-same-length-2
 same-length-2 c = search needs

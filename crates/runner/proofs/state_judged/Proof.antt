@@ -1,85 +1,58 @@
-use Prim.Native.Nat.{_<_}
-use mathlib.Core.Bool.{Bool, cond}
+-- Each test in the model's order. Assumes nothing.
+use mathlib.Core.Bool.{true, false}
 use mathlib.Core.Path.{ap, sym, _∙_}
-use native.Mathlib.Omega.{arith}
-use lib.ListN.{length}
-use borrow.Author.Needs.{needs}
-use Rattle.model.specs.declared.answers.Judgement.the-variants.{Accepted, Refused as refused}
-use Rattle.model.specs.declared.answers.Refusal.the-variants.{ClaimsNotMet}
-use Rattle.model.specs.Listing.{listingOf, pointsOf}
+use borrow.Author.Tests.{not-true, not-false}
+use Rattle.model.specs.Machine.{valuesFrom}
 use Rattle.runner.specs.Runs.{state}
-use Rattle.runner.proofs.States.{in-table, short-tables, tables-long, point-past, tested, claims-tested}
+use Rattle.runner.proofs.States.{tables-long, point-past, claims-tested}
+use borrow.Author.Needs.{needs}
 use Rattle.runner.proofs.state_judged.Statement.{statement}
 use Rattle.runner.proofs.state_judged.Tie as tie
 
+all-fit-requires : tie.Need-all-fit-requires
+all-fit-requires c κs = search needs
+
 returns : tie.Need-returns
-returns c = tables-long (pointsOf (listingOf (c .before .before .before .before .args .listing .now))) (state (c .before .before .before .before .args .point) (c .before .before .before .before .args .registers)) (c .before .before .before .before .args .n) (c .before .before .before .before .args .m) (c .if1 .taken)
+returns c =
+    let a = c .before .before .before .before .args in
+    tables-long (a .rows .now) (a .at .now) (a .count) (state (a .point) (a .registers)) _ (sym (c .before .all-fit .ensures) ∙ not-true _ (c .if1 .taken))
 
 returns-2 : tie.Need-returns-2
 returns-2 c =
-    let s = c .before .before .before .before .before in
-    let short = short-tables (s .args .n) (s .args .m) (c .before .if1 .left) in
-    let n = s .pre .count in
-    let t = c .if2 .taken in
-    point-past (pointsOf (listingOf (s .args .listing .now))) (state (s .args .point) (s .args .registers)) (s .args .n) (s .args .m) short (omega arith)
+    let a = c .before .before .before .before .before .args in
+    point-past (a .rows .now) (a .at .now) (a .count) (state (a .point) (a .registers)) _ (sym (c .before .before .all-fit .ensures) ∙ not-false _ (c .before .if1 .left)) (c .if2 .taken)
 
-point-at-requires : tie.Need-point-at-requires
-point-at-requires c κs = (c .before .before .before .before .before .pre .filled, c .if2 .left)
-
-cast-values-of : tie.Need-cast-values-of
-cast-values-of c =
-    let s = c .before .before .before .before .before .before in
-    let short = short-tables (s .args .n) (s .args .m) (c .before .before .if1 .left) in
-    omega arith
-
-cast-values-of-2 : tie.Need-cast-values-of-2
-cast-values-of-2 c =
-    let s = c .before .before .before .before .before .before in
-    let short = short-tables (s .args .n) (s .args .m) (c .before .before .if1 .left) in
-    omega arith
+words-requires : tie.Need-words-requires
+words-requires c κs = sym (c .before .before .all-fit .ensures) ∙ not-false _ (c .before .if1 .left)
 
 values-of-requires : tie.Need-values-of-requires
 values-of-requires c κs = search needs
 
 claims-met-requires : tie.Need-claims-met-requires
-claims-met-requires c κs =
-    let s = c .before .before .before .before .before .before .before .before in
-    let n = s .pre .count in
-    let t = c .before .before .before .if2 .left in
-    let h = in-table _ _ _ (s .pre .points) (omega arith) (c .before .before .point-at .ensures) in
-    (search needs, (s .pre .filled .kept, h .lines))
+claims-met-requires c κs = (search needs, c .before .before .before .before .before .before .before .before .pre .all .each _ (c .before .before .before .if2 .left))
 
 returns-3 : tie.Need-returns-3
 returns-3 c =
-    let s = c .before .before .before .before .before .before .before .before .before .before in
-    let n = s .pre .count in
-    let t = c .before .before .before .before .before .if2 .left in
-    let short = short-tables (s .args .n) (s .args .m) (c .before .before .before .before .before .before .if1 .left) in
-    let inside : s .args .point < length (pointsOf (listingOf (s .args .listing .now))) = omega arith in
-    let h = in-table _ _ _ (s .pre .points) inside (c .before .before .before .before .point-at .ensures) in
-    let e = c .before .claims-met .ensures ∙ tested (c .before .before .before .values-of .ensures) (h .claims) in
-    sym (ap (λ (b : Bool). cond b Accepted (refused ClaimsNotMet)) (c .if3 .taken)) ∙ claims-tested (pointsOf (listingOf (s .args .listing .now))) (state (s .args .point) (s .args .registers)) (s .args .n) (s .args .m) short inside _ e
+    let a = c .before .before .before .before .before .before .before .before .before .before .args in
+    let short = sym (c .before .before .before .before .before .before .before .all-fit .ensures) ∙ not-false _ (c .before .before .before .before .before .before .if1 .left) in
+    let values = c .before .before .before .values-of .ensures ∙ ap (valuesFrom (a .registers)) (c .before .before .before .before .words .ensures) in
+    claims-tested (a .rows .now) (a .at .now) (a .count) (state (a .point) (a .registers)) _ short (c .before .before .before .before .before .if2 .left) _ values true (sym (c .if3 .taken) ∙ c .before .claims-met .ensures)
 
 returns-4 : tie.Need-returns-4
 returns-4 c =
-    let s = c .before .before .before .before .before .before .before .before .before .before in
-    let n = s .pre .count in
-    let t = c .before .before .before .before .before .if2 .left in
-    let short = short-tables (s .args .n) (s .args .m) (c .before .before .before .before .before .before .if1 .left) in
-    let inside : s .args .point < length (pointsOf (listingOf (s .args .listing .now))) = omega arith in
-    let h = in-table _ _ _ (s .pre .points) inside (c .before .before .before .before .point-at .ensures) in
-    let e = c .before .claims-met .ensures ∙ tested (c .before .before .before .values-of .ensures) (h .claims) in
-    sym (ap (λ (b : Bool). cond b Accepted (refused ClaimsNotMet)) (c .if3 .left)) ∙ claims-tested (pointsOf (listingOf (s .args .listing .now))) (state (s .args .point) (s .args .registers)) (s .args .n) (s .args .m) short inside _ e
+    let a = c .before .before .before .before .before .before .before .before .before .before .args in
+    let short = sym (c .before .before .before .before .before .before .before .all-fit .ensures) ∙ not-false _ (c .before .before .before .before .before .before .if1 .left) in
+    let values = c .before .before .before .values-of .ensures ∙ ap (valuesFrom (a .registers)) (c .before .before .before .before .words .ensures) in
+    claims-tested (a .rows .now) (a .at .now) (a .count) (state (a .point) (a .registers)) _ short (c .before .before .before .before .before .if2 .left) _ values false (sym (c .if3 .left) ∙ c .before .claims-met .ensures)
 
 pub state-judged-spec : {M : Type 1} → statement M
 state-judged-spec =
     tie.close
     (tie.spec
+    all-fit-requires
     returns
     returns-2
-    point-at-requires
-    cast-values-of
-    cast-values-of-2
+    words-requires
     values-of-requires
     claims-met-requires
     returns-3

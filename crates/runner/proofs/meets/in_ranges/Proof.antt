@@ -2,6 +2,7 @@ use Prim.Native.Nat.{_≤_, _-_}
 use mathlib.Core.Path.{_≡_, refl, ap, _∙_}
 use native.Mathlib.Numerals.{add-one}
 use native.Mathlib.Omega.{arith}
+use Rattle.model.specs.Limits as Limits
 use Rattle.model.specs.Lists.{everyBelow}
 use Rattle.domain.specs.Known.{rangesOf}
 use Rattle.runner.specs.Meets.{inOwnRange, inRanges}
@@ -9,10 +10,10 @@ use Rattle.runner.proofs.meets.in_ranges.Statement.{statement}
 use Rattle.runner.proofs.meets.in_ranges.Tie as tie
 
 abbrev Inv-loop : tie.InvT-loop
-Inv-loop values low high all₀ v₀ all v = (v ≤ 18) × (all ≡ everyBelow (inOwnRange values (rangesOf low high)) v)
+Inv-loop values low high all₀ v₀ all v = (v ≤ Limits.variables) × (all ≡ everyBelow (inOwnRange values (rangesOf low high)) v)
 
 abbrev μ-loop : tie.MeasureT-loop
-μ-loop values low high all₀ v₀ all v = 18 - v
+μ-loop values low high all₀ v₀ all v = Limits.variables - v
 
 loop-holds : tie.Need-loop-holds Inv-loop μ-loop
 unfolding everyBelow
@@ -33,7 +34,7 @@ loop-again c = (omega arith, rw (c .in-range .ensures, c .before .before .loop .
 
 returns : tie.Need-returns Inv-loop μ-loop
 unfolding inRanges
-returns c = let done : c .before .loop .v ≡ 18 = omega arith in c .before .loop .inv .1 ∙ ap (everyBelow (inOwnRange (c .before .before .args .values .now) (rangesOf (c .before .before .args .low .now) (c .before .before .args .high .now)))) done
+returns c = let done : c .before .loop .v ≡ Limits.variables = omega arith in c .before .loop .inv .1 ∙ ap (everyBelow (inOwnRange (c .before .before .args .values .now) (rangesOf (c .before .before .args .low .now) (c .before .before .args .high .now)))) done
 
 pub in-ranges-spec : {M : Type 1} → statement M
 in-ranges-spec =

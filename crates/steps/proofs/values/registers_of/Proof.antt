@@ -4,17 +4,18 @@ use native.Mathlib.Omega.{arith}
 use Prim.Native.Nat.{_-_}
 use lib.ListN.{length}
 use mathlib.Core.Path.{_≡_}
+use Rattle.model.specs.Limits as Limits
 use Rattle.steps.proofs.values.registers_of.Statement.{statement}
 use Rattle.steps.proofs.values.registers_of.Tie as tie
 
 abbrev Inv-loop : tie.InvT-loop
-Inv-loop values registers₀ i₀ registers i = Copied values registers 16 i
+Inv-loop values registers₀ i₀ registers i = Copied values registers Limits.registers i
 
 abbrev μ-loop : tie.MeasureT-loop
-μ-loop values registers₀ i₀ registers i = 16 - i
+μ-loop values registers₀ i₀ registers i = Limits.registers - i
 
 loop-holds : tie.Need-loop-holds Inv-loop μ-loop
-loop-holds c = copied-none _ _ 16 (search needs)
+loop-holds c = copied-none _ _ Limits.registers (search needs)
 
 mul-registers : tie.Need-mul-registers Inv-loop μ-loop
 mul-registers c = omega arith
@@ -35,7 +36,7 @@ loop-less : tie.Need-loop-less Inv-loop μ-loop
 loop-less c = omega arith
 
 loop-again : tie.Need-loop-again Inv-loop μ-loop
-loop-again c = copied-more (c .before .loop .inv) (c .loop-test .taken) (omega arith) (let l : length (c .before .before .args .t1) ≡ 18 = search needs in omega arith)
+loop-again c = copied-more (c .before .loop .inv) (c .loop-test .taken) (omega arith) (let l : length (c .before .before .args .t1) ≡ Limits.variables = search needs in omega arith)
 
 returns : tie.Need-returns Inv-loop μ-loop
 returns c = copied-all (c .before .loop .inv) (c .loop-test .left)

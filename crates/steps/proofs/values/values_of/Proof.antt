@@ -1,20 +1,28 @@
-use mathlib.Core.Path.{_≡_}
-use lib.ListN.{length}
-use borrow.Author.Needs.{needs}
-use Rattle.steps.proofs.Copying.{Copied, copied-none, copied-more, sizes-last}
+use mathlib.Core.List.{List, _++_}
+use mathlib.Core.Path.{_≡_, ap, _∙_}
 use Prim.Native.Nat.{_-_}
+use lib.ListN.{length}
 use native.Mathlib.Omega.{arith}
+use borrow.Author.Needs.{needs}
+use Rattle.model.specs.Limits as Limits
+use Rattle.steps.proofs.Copying.{Followed, followed-none, followed-more, followed-all}
 use Rattle.steps.proofs.values.values_of.Statement.{statement}
 use Rattle.steps.proofs.values.values_of.Tie as tie
 
 abbrev Inv-loop : tie.InvT-loop
-Inv-loop n m registers values₀ i₀ values i = Copied registers values 18 i
+Inv-loop sizes values₀ i₀ values i = Followed Limits.registers values₀ sizes values i
 
 abbrev μ-loop : tie.MeasureT-loop
-μ-loop n m registers values₀ i₀ values i = 16 - i
+μ-loop sizes values₀ i₀ values i = 2 - i
+
+with-registers-requires : tie.Need-with-registers-requires Inv-loop μ-loop
+with-registers-requires c κs = search needs
 
 loop-holds : tie.Need-loop-holds Inv-loop μ-loop
-loop-holds c = copied-none _ _ 18 (search needs)
+loop-holds c =
+    let two : length (c .before .args .t2) ≡ 2 = search needs in
+    let long : length (c .with-registers .result) ≡ Limits.variables = search needs in
+    followed-none Limits.registers _ _ (omega arith)
 
 mul-values : tie.Need-mul-values Inv-loop μ-loop
 mul-values c = omega arith
@@ -22,11 +30,14 @@ mul-values c = omega arith
 array-read-values : tie.Need-array-read-values Inv-loop μ-loop
 array-read-values c = search needs
 
+add-values : tie.Need-add-values Inv-loop μ-loop
+add-values c = omega arith
+
 mul-values-2 : tie.Need-mul-values-2 Inv-loop μ-loop
 mul-values-2 c = omega arith
 
 array-write-values : tie.Need-array-write-values Inv-loop μ-loop
-array-write-values c = let l = c .before .loop .inv .long in omega arith
+array-write-values c = let l = c .before .loop .inv .long in let two : length (c .before .before .before .args .t2) ≡ 2 = search needs in omega arith
 
 add-i : tie.Need-add-i Inv-loop μ-loop
 add-i c = omega arith
@@ -35,16 +46,12 @@ loop-less : tie.Need-loop-less Inv-loop μ-loop
 loop-less c = omega arith
 
 loop-again : tie.Need-loop-again Inv-loop μ-loop
-loop-again c = copied-more (c .before .loop .inv) (c .loop-test .taken) (omega arith) (let l : length (c .before .before .args .t1) ≡ 16 = search needs in omega arith)
-
-array-write-values-2 : tie.Need-array-write-values-2 Inv-loop μ-loop
-array-write-values-2 c = let l = c .before .loop .inv .long in omega arith
-
-array-write-values-3 : tie.Need-array-write-values-3 Inv-loop μ-loop
-array-write-values-3 c = let l = c .before .loop .inv .long in omega arith
+loop-again c = let two : length (c .before .before .before .args .t2) ≡ 2 = search needs in followed-more (c .before .loop .inv) (omega arith)
 
 returns : tie.Need-returns Inv-loop μ-loop
-returns c = sizes-last (c .before .loop .inv) (c .loop-test .left) (search needs) _ _
+returns c =
+    let two : length (c .before .before .before .args .t2) ≡ 2 = search needs in
+    followed-all (c .before .loop .inv) (omega arith) ∙ ap (λ (l : List _). l ++ c .before .before .before .args .t2) (c .before .before .with-registers .ensures)
 
 pub values-of-spec : {M : Type 1} → statement M
 values-of-spec =
@@ -52,14 +59,14 @@ values-of-spec =
     (tie.spec
     Inv-loop
     μ-loop
+    with-registers-requires
     loop-holds
     mul-values
     array-read-values
+    add-values
     mul-values-2
     array-write-values
     add-i
     loop-less
     loop-again
-    array-write-values-2
-    array-write-values-3
     returns)

@@ -1,7 +1,7 @@
 use native.Mathlib.Omega.{arith}
 use borrow.Author.Needs.{needs}
-use Rattle.steps.proofs.bytes.load.Statement.{statement}
-use Rattle.steps.proofs.bytes.load.Tie as tie
+use Rattle.operations.proofs.bytes.load.Statement.{statement}
+use Rattle.operations.proofs.bytes.load.Tie as tie
 
 enum-told : tie.Need-enum-told
 enum-told c = search needs

@@ -1,8 +1,8 @@
-use Rattle.steps.proofs.Accesses.{Storing, store-none, store-more, store-all}
+use Rattle.operations.proofs.Accesses.{Storing, store-none, store-more, store-all}
 use native.Mathlib.Omega.{arith}
 use Prim.Native.Nat.{_-_}
-use Rattle.steps.proofs.bytes.store_bytes.Statement.{statement}
-use Rattle.steps.proofs.bytes.store_bytes.Tie as tie
+use Rattle.operations.proofs.bytes.store_bytes.Statement.{statement}
+use Rattle.operations.proofs.bytes.store_bytes.Tie as tie
 
 abbrev Inv-loop : tie.InvT-loop
 Inv-loop s₀ at w x left₀ k₀ s left k = Storing s₀ at w x s left k

@@ -41,7 +41,7 @@ fn store_bytes(s: &mut [u8], at: usize, w: usize, x: u32)
 }
 
 // The number that an access of this width finds. The width is a number in each arm, so that each loop is unrolled.
-pub(crate) fn load(s: &[u8], at: usize, w: Width) -> u32
+pub fn load(s: &[u8], at: usize, w: Width) -> u32
     requires { ⌜ at + bytesOf w ≤ length (now s) ⌝ }
     ensures { λ r. ⌜ r ≡ readBytes (bytesOf w) (now (s .entry)) at ⌝ }
 {
@@ -53,7 +53,7 @@ pub(crate) fn load(s: &[u8], at: usize, w: Width) -> u32
 }
 
 // An access of this width stores the low bytes of a number.
-pub(crate) fn store(s: &mut [u8], at: usize, w: Width, x: u32)
+pub fn store(s: &mut [u8], at: usize, w: Width, x: u32)
     requires { ⌜ at + bytesOf w ≤ length (now s) ⌝ }
     ensures { λ _. ⌜ now (s .exit) ≡ writeBytes (bytesOf w) (now (s .entry)) at x ⌝ }
 {

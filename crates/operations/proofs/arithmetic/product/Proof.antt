@@ -1,7 +1,7 @@
-use Rattle.steps.proofs.Copying.{product-below}
+use Rattle.operations.proofs.Products.{product-below}
 use borrow.Author.Needs.{needs}
-use Rattle.steps.proofs.step.product.Statement.{statement}
-use Rattle.steps.proofs.step.product.Tie as tie
+use Rattle.operations.proofs.arithmetic.product.Statement.{statement}
+use Rattle.operations.proofs.arithmetic.product.Tie as tie
 
 mul-result : tie.Need-mul-result
 mul-result c = record { fits = product-below 32 (search needs) (search needs) }

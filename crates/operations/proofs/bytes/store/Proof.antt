@@ -1,6 +1,6 @@
 use borrow.Author.Needs.{needs}
-use Rattle.steps.proofs.bytes.store.Statement.{statement}
-use Rattle.steps.proofs.bytes.store.Tie as tie
+use Rattle.operations.proofs.bytes.store.Statement.{statement}
+use Rattle.operations.proofs.bytes.store.Tie as tie
 
 enum-told : tie.Need-enum-told
 enum-told c = search needs

@@ -1,7 +1,7 @@
-use Rattle.steps.proofs.Accesses.{Loading, load-none, load-more, load-all, load-room}
+use Rattle.operations.proofs.Accesses.{Loading, load-none, load-more, load-all, load-room}
 use native.Mathlib.Omega.{arith}
-use Rattle.steps.proofs.bytes.load_bytes.Statement.{statement}
-use Rattle.steps.proofs.bytes.load_bytes.Tie as tie
+use Rattle.operations.proofs.bytes.load_bytes.Statement.{statement}
+use Rattle.operations.proofs.bytes.load_bytes.Tie as tie
 
 abbrev Inv-loop : tie.InvT-loop
 Inv-loop s at w x₀ k₀ x k = Loading s at w x k

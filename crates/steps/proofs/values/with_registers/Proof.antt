@@ -1,0 +1,58 @@
+use mathlib.Core.Path.{_≡_}
+use lib.ListN.{length}
+use borrow.Author.Needs.{needs}
+use Rattle.steps.proofs.Copying.{Copied, copied-none, copied-more, copied-front}
+use Prim.Native.Nat.{_-_}
+use native.Mathlib.Omega.{arith}
+use Rattle.model.specs.Limits as Limits
+use Rattle.steps.proofs.values.with_registers.Statement.{statement}
+use Rattle.steps.proofs.values.with_registers.Tie as tie
+
+abbrev Inv-loop : tie.InvT-loop
+Inv-loop registers values₀ i₀ values i = Copied registers values Limits.variables i
+
+abbrev μ-loop : tie.MeasureT-loop
+μ-loop registers values₀ i₀ values i = Limits.registers - i
+
+loop-holds : tie.Need-loop-holds Inv-loop μ-loop
+loop-holds c = copied-none _ _ Limits.variables (search needs)
+
+mul-values : tie.Need-mul-values Inv-loop μ-loop
+mul-values c = omega arith
+
+array-read-values : tie.Need-array-read-values Inv-loop μ-loop
+array-read-values c = search needs
+
+mul-values-2 : tie.Need-mul-values-2 Inv-loop μ-loop
+mul-values-2 c = omega arith
+
+array-write-values : tie.Need-array-write-values Inv-loop μ-loop
+array-write-values c = let l = c .before .loop .inv .long in omega arith
+
+add-i : tie.Need-add-i Inv-loop μ-loop
+add-i c = omega arith
+
+loop-less : tie.Need-loop-less Inv-loop μ-loop
+loop-less c = omega arith
+
+loop-again : tie.Need-loop-again Inv-loop μ-loop
+loop-again c = copied-more (c .before .loop .inv) (c .loop-test .taken) (omega arith) (let l : length (c .before .before .args .t1) ≡ Limits.registers = search needs in omega arith)
+
+returns : tie.Need-returns Inv-loop μ-loop
+returns c = copied-front (c .before .loop .inv) (c .loop-test .left) (search needs)
+
+pub with-registers-spec : {M : Type 1} → statement M
+with-registers-spec =
+    tie.close
+    (tie.spec
+    Inv-loop
+    μ-loop
+    loop-holds
+    mul-values
+    array-read-values
+    mul-values-2
+    array-write-values
+    add-i
+    loop-less
+    loop-again
+    returns)
