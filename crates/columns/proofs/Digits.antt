@@ -1,4 +1,4 @@
--- The digits of n columns give a number below 10 ^ n. Assumes nothing.
+-- A number read from n columns of digits is less than 10 ^ n. Assumes nothing.
 use Prim.Native.Nat.{ℕ, zero, suc, _+_, _-_, _^_, _<_, _≤_}
 use native.Mathlib.Nat.{pow-suc, pow-le-pow-right, lt-of-lt-of-le}
 use native.Mathlib.Omega.{arith}

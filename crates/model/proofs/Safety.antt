@@ -54,7 +54,7 @@ top-size Trays = top-claimed (sizeVariable Trays) (omega arith)
 top-size Results = top-claimed (sizeVariable Results) (omega arith)
 
 module _ (ps : List Point) (passes : Passes ps) (sizes : List ℕ) where
-  -- a state that meets the claims of its point, with tables of these sizes
+  -- where the claims hold of a state, its configuration is good over tables of these sizes
   pub good-start : (s : State) (t : Tables) → length (s .registers) ≡ registers → Sized sizes t → meetsClaims ps s sizes ≡ true → Good ps sizes (configOf s t)
   unfolding meetsClaims
   good-start s t sixteen z e =

@@ -14,7 +14,7 @@ use Rattle.model.specs.Transfer.{possible}
 abbrev pub byRanges : List Range → Stripe → Bool
 byRanges rs g = leb (g .a * (hi rs (g .y) + hi rs (g .z)) + g .plus) (lo rs (g .x) + g .minus)
 
--- the same x and a, and the same y, z in either order
+-- equal in x and a, and in the pair of y and z, exchanged or not
 abbrev pub sameSides : Stripe → Stripe → Bool
 sameSides s g =
     eqb (s .x) (g .x) && eqb (s .a) (g .a)

@@ -146,7 +146,7 @@ pointsOf (refusedListing r) = []
 abbrev pub pointExists : List Point → ℕ → Judgement
 pointExists ps p = cond (ltb p (length ps)) Accepted (refused NoSuchPoint)
 
--- the call for claim lines tests 1 to 11, then 16
+-- what turns the call for claim lines back: a refusal of reading, 1 to 11, and without one a point that does not exist, 16
 abbrev pub claimLinesJudged : Listing → ℕ → Judgement
 claimLinesJudged (readAs ps) p = pointExists ps p
 claimLinesJudged (refusedListing r) p = refused r

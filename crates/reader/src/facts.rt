@@ -11,7 +11,7 @@ ghost use Rattle.domain.specs.Known.{known, Standing, AtPoint};
 ghost use Rattle.reader.specs.Points.{ClaimRows, Placed, pointIn};
 
 // The facts that n rows from row from on state. The answer is how many stripes there are.
-pub fn facts_of<'a>(
+fn facts_of<'a>(
     rows: &'a [u64],
     from: usize,
     n: usize,

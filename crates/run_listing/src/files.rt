@@ -95,7 +95,7 @@ fn is_renamed(from: &[u8], to: &[u8]) -> bool {
 
 // Replaces two files by new ones: both are written beside, then the first is renamed, then the second. A break before the first
 // rename leaves both as they were; one between the two leaves the second's new file, whole, and not the first's.
-pub fn replace_both(
+pub(crate) fn replace_both(
     first: &[u8],
     first_new: &[u8],
     first_bytes: &[u8],

@@ -10,7 +10,7 @@ pub struct Edge {
     pub known: Option<Known>,
 }
 
-/// The edges of the instruction at `point`: to the next point first, then to the target.
+/// The edges of the instruction at `point`: the one to the point after it comes before the one to its target.
 pub fn edges(point: usize, instruction: &Instruction, before: &Known) -> Vec<Edge> {
     let edge = |to, after: Option<Known>| Edge { to, known: after.filter(|known| !known.has_empty_range()) };
     match *instruction {

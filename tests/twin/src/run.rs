@@ -32,7 +32,7 @@ pub struct Outcome {
 /// The registers, then the sizes of the tables.
 type Values = [u32; VARIABLES];
 
-/// Runs at most `budget` steps. A refusal gives back the state with 0 steps and leaves the results untouched.
+/// Runs at most `budget` steps. A run that is turned back makes none: state and results are as they were.
 pub fn run(text: &[u8], state: State, trays: &[u8], results: &mut [u8], budget: u32) -> Outcome {
     let run = in_room(text, |points, claims| {
         let listing = checked(text, points, claims)?;
