@@ -78,6 +78,7 @@ sortFrom STRP v = strpSort
 abbrev pub scanOf : List Point → List Claim → Scan
 scanOf ps cs = record { points = length ps; claims = length cs; stripes = stripesAmong cs; last = lastOf cs }
 
+-- what the code keeps of a reading
 abbrev pub progressOf : Reading → Progress
 progressOf (going ps cs) = Going (scanOf ps cs)
 progressOf (refusedReading r) = Turned r
@@ -86,6 +87,7 @@ progressOf (refusedReading r) = Turned r
 abbrev pub inOrderAfter : Scan → Order → Bool
 inOrderAfter q c = cond (ltb greatestStripes (q .stripes + stripesOf c)) false (cond (eqb (q .claims) 0) true (mayStand (q .last) c))
 
+-- a claim on the k-th line, counted from 0: one claim more, or 6 where it is out of order
 abbrev pub afterClaim : Scan → ℕ → Order → Progress
 afterClaim q k c =
     cond (inOrderAfter q c) (Going (record { points = q .points; claims = q .claims + 1; stripes = q .stripes + stripesOf c; last = c }))
