@@ -1,0 +1,3 @@
+pub mod Showing
+pub mod Trimming
+pub mod Wording
