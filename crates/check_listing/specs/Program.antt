@@ -1,14 +1,26 @@
--- What the program prints of what it has read.
+-- What the program makes of what it has read.
 -- After the bytes that were read it asks for one more: 0 says that the input ended there, a number above 0 that there is more, and
 -- one below 0 that reading failed.
 use Prim.Native.Nat.{ℕ, zero, suc}
+use mathlib.Core.Path.{_≡_}
 use mathlib.Core.List.{List, []}
 use lib.IntN.{ℤ, pos, negsuc}
+use Rattle.model.specs.declared.answers.Refusal.{Refusal}
+use Rattle.model.specs.declared.answers.Verdict.{Verdict}
+use Rattle.model.specs.declared.answers.Verdict.the-variants.{Refused as refusedVerdict}
 use Rattle.model.specs.Check.{check}
 use Rattle.model.specs.Output.{printed}
 
--- the line: that of the bytes where the input ended after them, else that of an empty listing
+-- the verdict: that of the bytes where the input ended after them, else that of an empty listing
+abbrev pub verdictOf : List ℕ → ℤ → Verdict
+verdictOf s (pos zero) = check s
+verdictOf s (pos (suc k)) = check []
+verdictOf s (negsuc k) = check []
+
+-- the line that is printed
 abbrev pub lineOf : List ℕ → ℤ → List ℕ
-lineOf s (pos zero) = printed (check s)
-lineOf s (pos (suc k)) = printed (check [])
-lineOf s (negsuc k) = printed (check [])
+lineOf s more = printed (verdictOf s more)
+
+-- the refusal that is explained
+abbrev pub Refuses : Verdict → Refusal → Type 0
+Refuses v r = v ≡ refusedVerdict r
