@@ -1,7 +1,9 @@
-// Files read whole, and written beside and then renamed.
+// Files read whole; new files made beside others, written, and renamed.
 use libc::STDERR_FILENO;
+use recovery::left::Left;
+use recovery::names::folder_length;
 ghost use mathlib.Core.Path.{_≡_};
-ghost use Rattle.saved.specs.Names.{newName};
+ghost use Rattle.recovery.specs.Names.{newName};
 ghost use Rattle.run_listing.specs.Program.{isWhole};
 
 // Says what is wrong with a file, and why.
@@ -66,35 +68,102 @@ pub fn is_there(path: &[u8]) -> bool {
     true
 }
 
-// Makes a new file with these bytes. Where that fails, it says why and leaves no such file.
-fn write_new(path: &[u8], bytes: &[u8]) -> bool {
-    let fd = os::create(path);
+// Opens the new file that a run claims: one that the caller has prepared, or one that is made here and was not there before.
+fn open_claimed(path: &[u8], prepared: bool) -> i32 {
+    if prepared {
+        return os::open_update(path);
+    }
+    os::create(path)
+}
+
+// Claims a new file, or says why it cannot be claimed.
+pub fn is_claimed(path: &[u8], prepared: bool) -> bool {
+    if path.len() == 0 {
+        say(b"RESULTS or STATE", b"its path is empty or too long");
+        return false;
+    }
+    let fd = open_claimed(path, prepared);
     if fd < 0 {
         os::fail(path);
         return false;
     }
-    let is_written = io::write_all(fd, bytes);
+    libc::close(fd);
+    true
+}
+
+// Syncs a folder. Where that fails it is said and nothing else is done: the files are in place all the same.
+fn sync(folder: &[u8]) {
+    let fd = os::open_read(folder);
+    if fd < 0 {
+        os::fail(folder);
+        return;
+    }
+    if libc::fsync(fd) != 0 {
+        os::fail(folder);
+    }
+    libc::close(fd);
+}
+
+// Syncs the folder of a file, so that a name given or taken away there lasts.
+pub fn sync_folder(path: &[u8]) {
+    let n = folder_length(path);
+    if n == 0 {
+        sync(b".");
+        return;
+    }
+    sync(&path[..n]);
+}
+
+// Writes the bytes of a new file that was claimed, and syncs it and its folder, or says why it cannot be.
+fn is_written(path: &[u8], bytes: &[u8]) -> bool {
+    let fd = os::open_update(path);
+    if fd < 0 {
+        os::fail(path);
+        return false;
+    }
+    let is_put = io::write_all(fd, bytes);
     let is_synced = libc::fsync(fd) == 0;
     let is_closed = libc::close(fd) == 0;
-    if is_written & is_synced & is_closed {
+    if is_put & is_synced & is_closed {
+        sync_folder(path);
         return true;
     }
     os::fail(path);
-    os::unlink(path);
     false
 }
 
 // Gives a new file its name, or says why it cannot be.
-fn is_renamed(from: &[u8], to: &[u8]) -> bool {
+pub fn is_renamed(from: &[u8], to: &[u8]) -> bool {
     if os::rename(from, to) == 0 {
+        sync_folder(to);
         return true;
     }
     os::fail(to);
     false
 }
 
-// Replaces two files by new ones: both are written beside, then the first is renamed, then the second. A break before the first
-// rename leaves both as they were; one between the two leaves the second's new file, whole, and not the first's.
+// Removes a file, or says why it cannot be.
+fn is_removed(path: &[u8]) -> bool {
+    if os::unlink(path) == 0 {
+        return true;
+    }
+    os::fail(path);
+    false
+}
+
+// Removes the new files of a run that has changed nothing: the state's first, so that it never stands alone.
+pub fn are_removed(results_new: &[u8], state_new: &[u8]) -> bool {
+    if is_there(state_new) {
+        if !is_removed(state_new) {
+            return false;
+        }
+        sync_folder(state_new);
+    }
+    is_removed(results_new)
+}
+
+// Replaces two files by new ones that were claimed: both are written, then the first is renamed, then the second. The answer says what
+// is left then: before the first rename both files are as they were, and between the two the second's new file is left, whole.
 pub(crate) fn replace_both(
     first: &[u8],
     first_new: &[u8],
@@ -102,28 +171,25 @@ pub(crate) fn replace_both(
     second: &[u8],
     second_new: &[u8],
     second_bytes: &[u8],
-) -> bool
+) -> Left
     requires { ⌜ now «first_new» ≡ newName (now first) ⌝ }
     requires { ⌜ now «second_new» ≡ newName (now second) ⌝ }
 {
-    if !write_new(first_new, first_bytes) {
-        return false;
+    if !is_written(first_new, first_bytes) {
+        return Left::Begun;
     }
-    if !write_new(second_new, second_bytes) {
-        os::unlink(first_new);
-        return false;
+    if !is_written(second_new, second_bytes) {
+        return Left::Begun;
     }
     if !is_renamed(first_new, first) {
-        os::unlink(second_new);
-        os::unlink(first_new);
-        return false;
+        return Left::Begun;
     }
     if !is_renamed(second_new, second) {
         say(
             second_new,
-            b"the results are written, the state is here: rename it",
+            b"the results are replaced, the state is still here; the next call of run-listing puts it in place",
         );
-        return false;
+        return Left::Half;
     }
-    true
+    Left::Nothing
 }

@@ -1,17 +1,28 @@
-// Runs a listing over files: run_listing LISTING TRAYS RESULTS STATE BUDGET. It reads all four files, runs at most BUDGET steps,
-// replaces the results and the state, and prints one line. A refusal or an error changes no file.
+// Runs a listing over files: run_listing LISTING TRAYS RESULTS STATE BUDGET. It claims its new files, reads all four files, runs at most
+// BUDGET steps, replaces the results and the state, and prints one line. A refusal or an error changes no file.
+// The wrapper, which holds the locks of the files on a descriptor, names that descriptor as the last argument: with the five above the
+// new files are there already, and run_listing RESULTS STATE LOCK puts right what a run has left that was broken off.
+mod broken;
 mod files;
 
+use crate::broken::is_left_over;
+use crate::broken::new_name_of;
+use crate::broken::put_right;
+use crate::files::are_removed;
+use crate::files::is_claimed;
 use crate::files::is_read;
-use crate::files::is_there;
 use crate::files::open;
 use crate::files::replace_both;
 use crate::files::say;
+use explain::write_explanation;
 use libc::STDERR_FILENO;
 use libc::STDOUT_FILENO;
+use model::answers::Refusal;
 use model::answers::Report;
+use model::limits::GREATEST_SIZE;
 use output::run_line::answer_line;
-use saved::names::beside;
+use recovery::left::Left;
+use recovery::names::beside;
 use saved::numbers::Parsed;
 use saved::numbers::parse;
 use saved::states::read_state;
@@ -20,7 +31,7 @@ ghost use mathlib.Core.Path.{_≡_};
 ghost use mathlib.Core.Bool.{true};
 ghost use Rattle.saved.specs.Numbers.{numberIn};
 ghost use Rattle.saved.specs.States.{savedIn};
-ghost use Rattle.run_listing.specs.Program.{stepsOf, isNumber, runOf, lineOf, isMade, Leaves, Saves};
+ghost use Rattle.run_listing.specs.Program.{stepsOf, isNumber, runOf, lineOf, isMade, fileOf, Leaves, Saves};
 
 // The steps that a budget allows.
 fn steps_of(amount: &[u8]) -> u32
@@ -44,7 +55,7 @@ fn is_made(report: Report) -> bool
 }
 
 // The run of the bytes that were read, where the text is a state and the budget a number: it changes the results, and writes the line
-// to print and the text of the state to save. The answer is whether the run was made.
+// to print and the text of the state to save. The answer is the report of the run.
 fn run_of(
     listing: &[u8],
     trays: &[u8],
@@ -53,7 +64,7 @@ fn run_of(
     amount: &[u8],
     line: &mut [u8; 40],
     after: &mut [u8; 680],
-) -> bool
+) -> Report
     requires { ⌜ savedIn (now text) .whole ≡ true ⌝ }
     requires { ⌜ isNumber (numberIn (now amount)) ≡ true ⌝ }
     ensures { λ r. ⌜ Leaves (runOf (now (listing .entry)) (now (trays .entry)) (now (results .entry)) (now (text .entry)) (now (amount .entry))) r (now (results .exit)) (now (after .exit)) (now (line .exit)) ⌝ }
@@ -65,11 +76,11 @@ fn run_of(
     let end = o.state;
     *line = answer_line(report, end.point, o.steps);
     *after = write_state(end);
-    is_made(report)
+    report
 }
 
 // Replaces the results and the state by what a run handed back. The prover refuses a caller that has anything else to save.
-fn is_saved(
+fn save(
     listing: &[u8],
     trays: &[u8],
     before: &[u8],
@@ -77,7 +88,7 @@ fn is_saved(
     amount: &[u8],
     results: &[u8],
     after: &[u8; 680],
-) -> bool
+) -> Left
     requires { ⌜ Saves (runOf (now listing) (now trays) (now before) (now text) (now amount)) (now results) (now after) ⌝ }
 {
     let mut first = io::buffer();
@@ -98,14 +109,78 @@ fn is_saved(
     )
 }
 
-// Prints the line of a run. The prover refuses a caller that has another line.
-fn print(listing: &[u8], trays: &[u8], before: &[u8], text: &[u8], amount: &[u8], line: &[u8; 40])
+// Prints the line of a run, and says where it could not be printed what became of the files. The prover refuses a caller that has
+// another line.
+fn print(
+    listing: &[u8],
+    trays: &[u8],
+    before: &[u8],
+    text: &[u8],
+    amount: &[u8],
+    line: &[u8; 40],
+    files: &[u8],
+)
     requires { ⌜ now line ≡ lineOf (runOf (now listing) (now trays) (now before) (now text) (now amount)) ⌝ }
 {
-    io::write_all(STDOUT_FILENO, line);
+    if !io::write_all(STDOUT_FILENO, line) {
+        say(b"the line could not be written", files);
+    }
 }
 
-// Runs, saves and prints. The results before the run are lent too, since what is saved and printed is what the run makes of them.
+// The argument with the file that a refusal is about: the state, the table that is too long, or the listing.
+fn file_of(r: Refusal, trays: usize) -> usize
+    ensures { λ n. ⌜ n ≡ fileOf r trays ⌝ }
+{
+    match r {
+        Refusal::TableLength => {
+            if GREATEST_SIZE < trays as u64 {
+                return 2;
+            }
+            3
+        }
+        Refusal::NoSuchPoint => 4,
+        Refusal::ClaimsNotMet => 4,
+        Refusal::ListingLength => 1,
+        Refusal::LineBytes { line: _ } => 1,
+        Refusal::UnknownWord { line: _ } => 1,
+        Refusal::FieldShape { line: _ } => 1,
+        Refusal::NumberLimits { line: _ } => 1,
+        Refusal::ClaimOrder { line: _ } => 1,
+        Refusal::LastLineClaim { line: _ } => 1,
+        Refusal::TooManyPoints { line: _ } => 1,
+        Refusal::NoSuchTarget { line: _ } => 1,
+        Refusal::NoEnd { line: _ } => 1,
+        Refusal::EmptyStart { line: _ } => 1,
+        Refusal::DivisorMayBeZero { line: _ } => 1,
+        Refusal::AccessMayLeave { line: _ } => 1,
+        Refusal::ClaimMayFail { line: _, claim: _ } => 1,
+    }
+}
+
+// Explains the report of a run, where it is a refusal. The prover refuses a caller that has another report.
+fn explain_report(
+    listing: &[u8],
+    trays: &[u8],
+    before: &[u8],
+    text: &[u8],
+    amount: &[u8],
+    report: Report,
+)
+    requires { ⌜ report ≡ runOf (now listing) (now trays) (now before) (now text) (now amount) .outcome .report ⌝ }
+{
+    match report {
+        Report::Stopped => {}
+        Report::Paused => {}
+        Report::Refused(r) => {
+            let mut name = io::buffer();
+            let n = os::arg(file_of(r, trays.len()), &mut name);
+            write_explanation(&name[..n], listing, r);
+        }
+    }
+}
+
+// Runs, saves and prints, and answers what is left of the new files. The results before the run are lent too, since what is saved and
+// printed is what the run makes of them.
 fn run_on(
     listing: &[u8],
     trays: &[u8],
@@ -113,23 +188,39 @@ fn run_on(
     results: &mut [u8],
     text: &[u8],
     amount: &[u8],
-)
+) -> Left
     requires { ⌜ now before ≡ now results ⌝ }
     requires { ⌜ savedIn (now text) .whole ≡ true ⌝ }
     requires { ⌜ isNumber (numberIn (now amount)) ≡ true ⌝ }
 {
     let mut line = [0u8; 40];
     let mut after = [0u8; 680];
-    if run_of(listing, trays, results, text, amount, &mut line, &mut after) {
-        if !is_saved(listing, trays, before, text, amount, results, &after) {
-            return;
+    let report = run_of(listing, trays, results, text, amount, &mut line, &mut after);
+    if is_made(report) {
+        let left = save(listing, trays, before, text, amount, results, &after);
+        if is_done(left) {
+            let files = b"results and state are replaced";
+            print(listing, trays, before, text, amount, &line, files);
         }
+        return left;
     }
-    print(listing, trays, before, text, amount, &line);
+    explain_report(listing, trays, before, text, amount, report);
+    let files = b"no file was changed";
+    print(listing, trays, before, text, amount, &line, files);
+    Left::Begun
+}
+
+// Whether nothing is left of the new files, since both are in their places.
+fn is_done(left: Left) -> bool {
+    match left {
+        Left::Nothing => true,
+        Left::Begun => false,
+        Left::Half => false,
+    }
 }
 
 // Reads the results, and then runs.
-fn with_results(listing: &[u8], trays: &[u8], text: &[u8], amount: &[u8])
+fn with_results(listing: &[u8], trays: &[u8], text: &[u8], amount: &[u8]) -> Left
     requires { ⌜ savedIn (now text) .whole ≡ true ⌝ }
     requires { ⌜ isNumber (numberIn (now amount)) ≡ true ⌝ }
 {
@@ -137,127 +228,123 @@ fn with_results(listing: &[u8], trays: &[u8], text: &[u8], amount: &[u8])
     let n = os::arg(3, &mut path);
     let fd = open(&path[..n]);
     if fd < 0 {
-        return;
+        return Left::Begun;
     }
     let mut results = [0u8; 65537];
     let m = io::read_full(fd, &mut results);
-    if is_read(fd, &path[..n], m, 65537) {
-        let before = results;
-        run_on(
-            listing,
-            trays,
-            &before[..m],
-            &mut results[..m],
-            text,
-            amount,
-        );
+    if !is_read(fd, &path[..n], m, 65537) {
+        return Left::Begun;
     }
-}
-
-// Whether a file is there that a run broken off has left, which says what it had done.
-fn is_left_over(i: usize, why: &[u8]) -> bool {
-    let mut path = io::buffer();
-    let n = os::arg(i, &mut path);
-    let mut new = [0u8; 4096];
-    let m = beside(&path[..n], &mut new);
-    if is_there(&new[..m]) {
-        say(&new[..m], why);
-        return true;
-    }
-    false
+    let before = results;
+    run_on(
+        listing,
+        trays,
+        &before[..m],
+        &mut results[..m],
+        text,
+        amount,
+    )
 }
 
 // Reads the state, and then the rest.
-fn with_state(listing: &[u8], trays: &[u8], amount: &[u8])
+fn with_state(listing: &[u8], trays: &[u8], amount: &[u8]) -> Left
     requires { ⌜ isNumber (numberIn (now amount)) ≡ true ⌝ }
 {
     let mut path = io::buffer();
     let n = os::arg(4, &mut path);
     let fd = open(&path[..n]);
     if fd < 0 {
-        return;
+        return Left::Begun;
     }
     let mut text = [0u8; 681];
     let m = io::read_full(fd, &mut text);
     if !is_read(fd, &path[..n], m, 681) {
-        return;
+        return Left::Begun;
     }
     let saved = read_state(&text[..m]);
     if saved.whole {
-        with_results(listing, trays, &text[..m], amount);
-        return;
+        return with_results(listing, trays, &text[..m], amount);
     }
     say(
         &path[..n],
         b"it is no state: a JUMP line and 16 SETC lines, registers 0 to 15",
     );
+    Left::Begun
 }
 
 // Reads the trays, and then the rest.
-fn with_trays(listing: &[u8], amount: &[u8])
+fn with_trays(listing: &[u8], amount: &[u8]) -> Left
     requires { ⌜ isNumber (numberIn (now amount)) ≡ true ⌝ }
 {
     let mut path = io::buffer();
     let n = os::arg(2, &mut path);
     let fd = open(&path[..n]);
     if fd < 0 {
-        return;
+        return Left::Begun;
     }
     let mut trays = [0u8; 65537];
     let m = io::read_full(fd, &mut trays);
-    if is_read(fd, &path[..n], m, 65537) {
-        with_state(listing, &trays[..m], amount);
+    if !is_read(fd, &path[..n], m, 65537) {
+        return Left::Begun;
     }
+    with_state(listing, &trays[..m], amount)
 }
 
-// Reads the listing, and then the rest.
-fn with_listing(amount: &[u8])
+// Reads the listing, and then the rest. The answer is what is left of the new files.
+fn with_listing(amount: &[u8]) -> Left
     requires { ⌜ isNumber (numberIn (now amount)) ≡ true ⌝ }
 {
     let mut path = io::buffer();
     let n = os::arg(1, &mut path);
     let fd = open(&path[..n]);
     if fd < 0 {
-        return;
+        return Left::Begun;
     }
     let mut listing = [0u8; 65521];
     let m = io::read_full(fd, &mut listing);
-    if is_read(fd, &path[..n], m, 65521) {
-        with_trays(&listing[..m], amount);
+    if !is_read(fd, &path[..n], m, 65521) {
+        return Left::Begun;
     }
+    with_trays(&listing[..m], amount)
 }
 
-// The whole work with a budget, where no run was broken off before.
-fn with_budget(amount: &[u8])
+// The whole work with new files that are claimed. Where nothing was changed they are removed again.
+fn with_claimed(amount: &[u8], results_new: &[u8], state_new: &[u8])
     requires { ⌜ isNumber (numberIn (now amount)) ≡ true ⌝ }
 {
-    if is_left_over(
-        3,
-        b"a run was broken off before it changed anything: remove this file",
-    ) {
-        return;
+    match with_listing(amount) {
+        Left::Nothing => {}
+        Left::Begun => {
+            are_removed(results_new, state_new);
+        }
+        Left::Half => {}
     }
-    if is_left_over(
-        4,
-        b"a run was broken off after it wrote its results: this is its state, rename it",
-    ) {
-        return;
-    }
-    with_listing(amount);
 }
 
-fn main() {
-    if os::arg_count() != 6 {
-        io::write_all(
-            STDERR_FILENO,
-            b"usage: run_listing LISTING TRAYS RESULTS STATE BUDGET\n",
-        );
+// The whole work with a budget: claims the new files before anything is read, the results' first.
+fn with_budget(amount: &[u8], prepared: bool)
+    requires { ⌜ isNumber (numberIn (now amount)) ≡ true ⌝ }
+{
+    let mut results_new = [0u8; 4096];
+    let n = new_name_of(3, &mut results_new);
+    let mut state_new = [0u8; 4096];
+    let m = new_name_of(4, &mut state_new);
+    if !is_claimed(&results_new[..n], prepared) {
         return;
     }
+    if !is_claimed(&state_new[..m], prepared) {
+        are_removed(&results_new[..n], b"");
+        return;
+    }
+    with_claimed(amount, &results_new[..n], &state_new[..m]);
+}
+
+// A run with the budget that is given, where it is a number.
+fn run_files(prepared: bool) {
     let mut text = [0u8; 16];
     let n = os::arg(5, &mut text);
     match parse(&text[..n]) {
-        Parsed::Number(_) => with_budget(&text[..n]),
+        Parsed::Number(_) => with_budget(&text[..n], prepared),
         Parsed::NoNumber => {
             io::write_all(
                 STDERR_FILENO,
@@ -265,4 +352,26 @@ fn main() {
             );
         }
     }
+}
+
+fn main() {
+    let count = os::arg_count();
+    if count == 4 {
+        put_right();
+        return;
+    }
+    if count == 6 {
+        if !is_left_over() {
+            run_files(false);
+        }
+        return;
+    }
+    if count == 7 {
+        run_files(true);
+        return;
+    }
+    io::write_all(
+        STDERR_FILENO,
+        b"usage: run_listing LISTING TRAYS RESULTS STATE BUDGET\n",
+    );
 }

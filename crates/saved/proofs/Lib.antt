@@ -2,4 +2,3 @@ pub mod Lining
 pub mod Saving
 pub mod Worked
 pub mod Numbering
-pub mod Naming

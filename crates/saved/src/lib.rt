@@ -1,4 +1,3 @@
-// What a run is given and leaves as text: its state, the numbers that a user gives, and the name of a new file.
-pub mod names;
+// What a run is given and leaves as text: its state, and the numbers that a user gives.
 pub mod numbers;
 pub mod states;

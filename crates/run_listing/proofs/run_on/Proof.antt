@@ -1,51 +1,81 @@
--- The run was made of the results as they were before. Assumes nothing.
 use borrow.Author.Needs.{needs}
-use Prim.Native.Nat.{ℕ}
-use mathlib.Core.Path.{sym, subst, _∙_}
-use mathlib.Core.List.{List}
-use Rattle.run_listing.specs.Program.{runOf, Leaves}
 use Rattle.run_listing.proofs.run_on.Statement.{statement}
 use Rattle.run_listing.proofs.run_on.Tie as tie
+use Rattle.run_listing.proofs.run_on.Reads as reads
+use Rattle.run_listing.proofs.run_on.Lts as lts
+use Rattle.run_listing.proofs.explain_report.Reads as explain-report-reads
+use Rattle.run_listing.proofs.is_done.Reads as is-done-reads
+use Rattle.run_listing.proofs.is_made.Reads as is-made-reads
+use Rattle.run_listing.proofs.print.Reads as print-reads
+use Rattle.run_listing.proofs.run_of.Reads as run-of-reads
+use Rattle.run_listing.proofs.save.Reads as save-reads
 
+-- src/main.rt:198:9
 run-of-requires : tie.Need-run-of-requires
 run-of-requires c κs = search needs
 
-is-saved-requires : tie.Need-is-saved-requires
-is-saved-requires c κs =
-    let start = c .before .before .before .before .before .before .before .before .before .before .before .before .before .before .before in
-    let a = start .args in
-    let ran = c .before .before .before .before .before .run-of in
-    let left = subst (λ (rs : List ℕ). Leaves (runOf (a .listing .now) (a .trays .now) rs (a .text .now) (a .amount .now)) (ran .result) (ran .last .1 .1 .0) (ran .last .1 .1 .1 .1 .1 .1 .0) (ran .last .1 .1 .1 .1 .1 .0)) (sym (start .pre .0)) (ran .ensures) in
-    record { made = sym (left .told) ∙ c .before .before .if1 .taken; results = left .results; state = left .state }
+-- src/main.rt:199:8
+is-made-requires : tie.Need-is-made-requires
+is-made-requires c κs = search needs
 
+-- src/main.rt:200:13
+save-requires : tie.Need-save-requires
+save-requires c κs = ?
+
+-- src/main.rt:201:12
+is-done-requires : tie.Need-is-done-requires
+is-done-requires c κs = search needs
+
+-- src/main.rt:203:13
+print-requires : tie.Need-print-requires
+print-requires c κs = ?
+
+-- src/main.rt:205:9
 same-length : tie.Need-same-length
 same-length c = search needs
 
+-- src/main.rt:205:9
 returns : tie.Need-returns
 returns c = search needs
 
-print-requires : tie.Need-print-requires
-print-requires c κs =
-    let start = c .before .before .before .before .before .before .before .before .before .before .before .before .before .before in
-    let a = start .args in
-    let ran = c .before .before .before .before .run-of in
-    let left = subst (λ (rs : List ℕ). Leaves (runOf (a .listing .now) (a .trays .now) rs (a .text .now) (a .amount .now)) (ran .result) (ran .last .1 .1 .0) (ran .last .1 .1 .1 .1 .1 .1 .0) (ran .last .1 .1 .1 .1 .1 .0)) (sym (start .pre .0)) (ran .ensures) in
-    left .answer
-
+-- src/main.rt:205:9
 same-length-2 : tie.Need-same-length-2
 same-length-2 c = search needs
 
+-- src/main.rt:205:9
 returns-2 : tie.Need-returns-2
 returns-2 c = search needs
+
+-- src/main.rt:207:5
+explain-report-requires : tie.Need-explain-report-requires
+explain-report-requires c κs = ?
+
+-- src/main.rt:209:5
+print-requires-2 : tie.Need-print-requires-2
+print-requires-2 c κs = ?
+
+-- src/main.rt:184:1
+same-length-3 : tie.Need-same-length-3
+same-length-3 c = search needs
+
+-- src/main.rt:184:1
+returns-3 : tie.Need-returns-3
+returns-3 c = search needs
 
 pub run-on-spec : {M : Type 1} → statement M
 run-on-spec =
     tie.close
     (tie.spec
     run-of-requires
-    is-saved-requires
+    is-made-requires
+    save-requires
+    is-done-requires
+    print-requires
     same-length
     returns
-    print-requires
     same-length-2
-    returns-2)
+    returns-2
+    explain-report-requires
+    print-requires-2
+    same-length-3
+    returns-3)

@@ -3,9 +3,9 @@ use mathlib.Core.Path.{refl}
 use native.Mathlib.Omega.{arith}
 use borrow.Author.Needs.{needs}
 use borrow.Author.Tests.{lt-leb}
-use Rattle.saved.proofs.Naming.{named}
-use Rattle.saved.proofs.names.beside.Statement.{statement}
-use Rattle.saved.proofs.names.beside.Tie as tie
+use Rattle.recovery.proofs.Naming.{named}
+use Rattle.recovery.proofs.names.beside.Statement.{statement}
+use Rattle.recovery.proofs.names.beside.Tie as tie
 
 put-requires : tie.Need-put-requires
 put-requires c κs = search needs

@@ -8,7 +8,7 @@ use mathlib.Core.List.{List, [], _∷_, _++_}
 use lib.ListN.{length, take}
 use lib.Seq.{paste, take-paste, length-paste, take-length, length-take-le}
 use borrow.Author.Tests.{le-leb}
-use Rattle.saved.specs.Names.{longestPath, ending, newName}
+use Rattle.recovery.specs.Names.{longestPath, ending, newName}
 
 module _ (path name : List ℕ) (long : length name ≡ 4096) (short : length path ≤ longestPath) where
   abbrev first : List ℕ

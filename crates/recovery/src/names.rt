@@ -1,9 +1,9 @@
-// The name of the file that is written beside another.
+// The name of the file that is written beside another, and the folder of both.
 ghost use mathlib.Core.Path.{_≡_};
 ghost use Prim.Native.Nat.{_+_, _≤_};
 ghost use lib.ListN.{length, take};
 ghost use lib.Seq.{paste};
-ghost use Rattle.saved.specs.Names.{newName};
+ghost use Rattle.recovery.specs.Names.{newName, folderLength};
 
 // The longest path that a new file is named after.
 const LONGEST_PATH: usize = 4000;
@@ -33,4 +33,21 @@ pub fn beside(path: &[u8], name: &mut [u8]) -> usize
         return n + 4;
     }
     0
+}
+
+// How many bytes at the front of a path name its folder, the slash among them; 0 where the file is in the folder at hand.
+pub fn folder_length(path: &[u8]) -> usize
+    ensures { λ r. ⌜ (r ≤ length (now (path .entry))) × (r ≡ length (take r (now (path .entry)))) ⌝ }
+    ensures { λ r. ⌜ r ≡ folderLength (now (path .entry)) ⌝ }
+{
+    let mut n = 0;
+    let mut i = 0;
+    while i < path.len() {
+        let b = path[i];
+        i += 1;
+        if b == b'/' {
+            n = i;
+        }
+    }
+    n
 }

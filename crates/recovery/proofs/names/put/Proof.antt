@@ -6,8 +6,8 @@ use native.Mathlib.Numerals.{add-one}
 use lib.ListN.{length}
 use lib.Seq.{paste, paste-zero, paste-suc}
 use borrow.Author.Needs.{needs}
-use Rattle.saved.proofs.names.put.Statement.{statement}
-use Rattle.saved.proofs.names.put.Tie as tie
+use Rattle.recovery.proofs.names.put.Statement.{statement}
+use Rattle.recovery.proofs.names.put.Tie as tie
 
 abbrev Inv-loop : tie.InvT-loop
 Inv-loop name₀ at bytes i₀ name i = (i ≤ length bytes) × (length name ≡ length name₀) × (name ≡ paste name₀ at bytes i)
