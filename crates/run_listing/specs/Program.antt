@@ -7,8 +7,6 @@ use mathlib.Core.Bool.{Bool, true, false, _||_, cond}
 use mathlib.Core.List.{List}
 use lib.Dec.{ltb, eqb}
 use lib.IntN.{ℤ, pos, negsuc}
-use Rattle.model.specs.declared.answers.Refusal.{Refusal}
-use Rattle.model.specs.declared.answers.Refusal.the-variants.{ListingLength, LineBytes, UnknownWord, FieldShape, NumberLimits, ClaimOrder, LastLineClaim, TooManyPoints, NoSuchTarget, NoEnd, EmptyStart, DivisorMayBeZero, AccessMayLeave, ClaimMayFail, TableLength, NoSuchPoint, ClaimsNotMet}
 use Rattle.model.specs.declared.answers.Report.{Report}
 use Rattle.model.specs.declared.answers.Report.the-variants.{Stopped, Paused, Refused as refusedRun}
 use Rattle.model.specs.Limits.{greatestSize}
@@ -49,26 +47,10 @@ isMade Stopped = true
 isMade Paused = true
 isMade (refusedRun r) = false
 
--- the argument with the file that a refusal is about: the table that is too long, of which the trays are looked at first, for 15; the
--- state for 16 and 17; the listing for all others
-abbrev pub fileOf : Refusal → ℕ → ℕ
-fileOf ListingLength trays = 1
-fileOf (LineBytes l) trays = 1
-fileOf (UnknownWord l) trays = 1
-fileOf (FieldShape l) trays = 1
-fileOf (NumberLimits l) trays = 1
-fileOf (ClaimOrder l) trays = 1
-fileOf (LastLineClaim l) trays = 1
-fileOf (TooManyPoints l) trays = 1
-fileOf (NoSuchTarget l) trays = 1
-fileOf (NoEnd l) trays = 1
-fileOf (EmptyStart l) trays = 1
-fileOf (DivisorMayBeZero l) trays = 1
-fileOf (AccessMayLeave l) trays = 1
-fileOf (ClaimMayFail l c) trays = 1
-fileOf TableLength trays = cond (ltb greatestSize trays) 2 3
-fileOf NoSuchPoint trays = 4
-fileOf ClaimsNotMet trays = 4
+-- the argument with the file that the refusal of a number is about: the listing for 1 to 14, for 15 the trays where these are too long and
+-- else the results, the state for 16 and 17
+abbrev pub fileOf : ℕ → ℕ → ℕ
+fileOf number trays = cond (ltb number 15) 1 (cond (eqb number 15) (cond (ltb greatestSize trays) 2 3) 4)
 
 -- what a run leaves: its report, the bytes of the results, the text of the state, and the line
 pub record Leaves (r : Ran) (report : Report) (rs text line : List ℕ) : Type 0 where

@@ -17,9 +17,9 @@ use crate::files::say;
 use explain::write_explanation;
 use libc::STDERR_FILENO;
 use libc::STDOUT_FILENO;
-use model::answers::Refusal;
 use model::answers::Report;
 use model::limits::GREATEST_SIZE;
+use output::refusal::number;
 use output::run_line::answer_line;
 use recovery::left::Left;
 use recovery::names::beside;
@@ -127,34 +127,20 @@ fn print(
     }
 }
 
-// The argument with the file that a refusal is about: the state, the table that is too long, or the listing.
-fn file_of(r: Refusal, trays: usize) -> usize
-    ensures { λ n. ⌜ n ≡ fileOf r trays ⌝ }
+// The argument with the file that the refusal of this number is about, where the trays have so many bytes.
+fn file_of(number: u64, trays: usize) -> usize
+    ensures { λ n. ⌜ n ≡ fileOf number trays ⌝ }
 {
-    match r {
-        Refusal::TableLength => {
-            if GREATEST_SIZE < trays as u64 {
-                return 2;
-            }
-            3
-        }
-        Refusal::NoSuchPoint => 4,
-        Refusal::ClaimsNotMet => 4,
-        Refusal::ListingLength => 1,
-        Refusal::LineBytes { line: _ } => 1,
-        Refusal::UnknownWord { line: _ } => 1,
-        Refusal::FieldShape { line: _ } => 1,
-        Refusal::NumberLimits { line: _ } => 1,
-        Refusal::ClaimOrder { line: _ } => 1,
-        Refusal::LastLineClaim { line: _ } => 1,
-        Refusal::TooManyPoints { line: _ } => 1,
-        Refusal::NoSuchTarget { line: _ } => 1,
-        Refusal::NoEnd { line: _ } => 1,
-        Refusal::EmptyStart { line: _ } => 1,
-        Refusal::DivisorMayBeZero { line: _ } => 1,
-        Refusal::AccessMayLeave { line: _ } => 1,
-        Refusal::ClaimMayFail { line: _, claim: _ } => 1,
+    if number < 15 {
+        return 1;
     }
+    if number != 15 {
+        return 4;
+    }
+    if GREATEST_SIZE < trays as u64 {
+        return 2;
+    }
+    3
 }
 
 // Explains the report of a run, where it is a refusal. The prover refuses a caller that has another report.
@@ -173,7 +159,7 @@ fn explain_report(
         Report::Paused => {}
         Report::Refused(r) => {
             let mut name = io::buffer();
-            let n = os::arg(file_of(r, trays.len()), &mut name);
+            let n = os::arg(file_of(number(r), trays.len()), &mut name);
             write_explanation(&name[..n], listing, r);
         }
     }

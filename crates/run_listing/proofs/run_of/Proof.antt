@@ -1,41 +1,50 @@
+-- State and budget are those of the texts. Assumes nothing.
 use borrow.Author.Needs.{needs}
+use mathlib.Core.Path.{_≡_, ap, _∙_}
+use Rattle.model.specs.declared.answers.Outcome.{Outcome}
+use Rattle.model.specs.Machine.{lent}
+use Rattle.model.specs.Run.{Ran, run}
+use Rattle.saved.specs.declared.states.Saved.{Saved}
+use Rattle.saved.specs.States.{savedIn, textOf}
+use Rattle.output.specs.RunLine.{answerLine}
+use Rattle.run_listing.specs.Program.{runOf}
 use Rattle.run_listing.proofs.run_of.Statement.{statement}
 use Rattle.run_listing.proofs.run_of.Tie as tie
-use Rattle.run_listing.proofs.run_of.Reads as reads
-use Rattle.run_listing.proofs.run_of.Lts as lts
-use Rattle.output.proofs.run_line.answer_line.Reads as answer-line-reads
-use Rattle.run_listing.proofs.steps_of.Reads as steps-of-reads
-use Rattle.runner.proofs.run.Reads as run-reads
-use Rattle.saved.proofs.states.read_state.Reads as read-state-reads
-use Rattle.saved.proofs.states.write_state.Reads as write-state-reads
 
--- src/main.rt:72:9
 read-state-requires : tie.Need-read-state-requires
 read-state-requires c κs = search needs
 
--- src/main.rt:74:57
 steps-of-requires : tie.Need-steps-of-requires
 steps-of-requires c κs = search needs
 
--- src/main.rt:74:9
 run-requires : tie.Need-run-requires
 run-requires c κs = search needs
 
--- src/main.rt:77:13
 answer-line-requires : tie.Need-answer-line-requires
 answer-line-requires c κs = search needs
 
--- src/main.rt:78:14
 write-state-requires : tie.Need-write-state-requires
 write-state-requires c κs = search needs
 
--- src/main.rt:59:1
 same-length : tie.Need-same-length
 same-length c = search needs
 
--- src/main.rt:59:1
 returns : tie.Need-returns
-returns c = ?
+returns c =
+    let a = c .before .before .before .before .before .before .before .before .before .before .before .before .before .before .before .args in
+    let read = c .before .before .before .before .before .before .before .before .before .read-state .ensures in
+    let steps = c .before .before .before .before .before .before .steps-of in
+    let ran = c .before .before .before .before .before .run in
+    let same : run (a .listing .now) (c .before .before .before .before .before .before .before .before .before .read-state .result .state) (lent (a .trays .now) (a .results .now)) (steps .result) ≡ runOf (a .listing .now) (a .trays .now) (a .results .now) (a .text .now) (a .amount .now) =
+    ap (λ (s : Saved). run (a .listing .now) (s .state) (lent (a .trays .now) (a .results .now)) (steps .result)) read
+    ∙ ap (run (a .listing .now) (savedIn (a .text .now) .state) (lent (a .trays .now) (a .results .now))) (steps .ensures) in
+    let outcome = ran .ensures .outcome ∙ ap (λ (r : Ran). r .outcome) same in
+    record {
+      told = ap (λ (o : Outcome). o .report) outcome;
+      results = ran .ensures .results ∙ ap (λ (r : Ran). r .tables .results) same;
+      state = c .write-state .ensures ∙ ap (λ (o : Outcome). textOf (o .state)) outcome;
+      answer = c .before .answer-line .ensures ∙ ap (λ (o : Outcome). answerLine (o .report) (o .state .point) (o .steps)) outcome;
+    }
 
 pub run-of-spec : {M : Type 1} → statement M
 run-of-spec =
