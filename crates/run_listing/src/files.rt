@@ -58,11 +58,19 @@ pub fn open(path: &[u8]) -> i32 {
     fd
 }
 
-// Whether there is a file that can be opened.
+// Whether an error of a call on a file says that there is no such file. Any other may be one of a file that is there.
+fn is_missing(error: i32) -> bool {
+    (error == libc::ENOENT) | (error == libc::ENAMETOOLONG)
+}
+
+// Whether there is a file of this name.
 pub fn is_there(path: &[u8]) -> bool {
+    if path.len() == 0 {
+        return false;
+    }
     let fd = os::open_read(path);
     if fd < 0 {
-        return false;
+        return !is_missing(os::errno());
     }
     libc::close(fd);
     true
@@ -142,9 +150,12 @@ pub fn is_renamed(from: &[u8], to: &[u8]) -> bool {
     false
 }
 
-// Removes a file, or says why it cannot be.
-fn is_removed(path: &[u8]) -> bool {
+// Whether no file of this name is there any more, or says why it could not be removed.
+pub fn is_removed(path: &[u8]) -> bool {
     if os::unlink(path) == 0 {
+        return true;
+    }
+    if is_missing(os::errno()) {
         return true;
     }
     os::fail(path);
@@ -153,12 +164,10 @@ fn is_removed(path: &[u8]) -> bool {
 
 // Removes the new files of a run that has changed nothing: the state's first, so that it never stands alone.
 pub fn are_removed(results_new: &[u8], state_new: &[u8]) -> bool {
-    if is_there(state_new) {
-        if !is_removed(state_new) {
-            return false;
-        }
-        sync_folder(state_new);
+    if !is_removed(state_new) {
+        return false;
     }
+    sync_folder(state_new);
     is_removed(results_new)
 }
 

@@ -1,7 +1,8 @@
 // Runs a listing over files: run_listing LISTING TRAYS RESULTS STATE BUDGET. It claims its new files, reads all four files, runs at most
 // BUDGET steps, replaces the results and the state, and prints one line. A refusal or an error changes no file.
-// The wrapper, which holds the locks of the files on a descriptor, names that descriptor as the last argument: with the five above the
-// new files are there already, and run_listing RESULTS STATE LOCK puts right what a run has left that was broken off.
+// The wrapper, which holds the locks of the files on a descriptor, names that descriptor after them, and then the names that it was given
+// for the results and the state: the new files are there already. run_listing RESULTS STATE LOCK puts right what a run has left that was
+// broken off.
 mod broken;
 mod files;
 
@@ -11,6 +12,7 @@ use crate::broken::put_right;
 use crate::files::are_removed;
 use crate::files::is_claimed;
 use crate::files::is_read;
+use crate::files::is_removed;
 use crate::files::open;
 use crate::files::replace_both;
 use crate::files::say;
@@ -32,6 +34,9 @@ ghost use mathlib.Core.Bool.{true};
 ghost use Rattle.saved.specs.Numbers.{numberIn};
 ghost use Rattle.saved.specs.States.{savedIn};
 ghost use Rattle.run_listing.specs.Program.{stepsOf, isNumber, runOf, lineOf, isMade, fileOf, Leaves, Saves};
+
+// How many arguments the wrapper gives, the program's own name among them.
+const WRAPPED: usize = 9;
 
 // The steps that a budget allows.
 fn steps_of(amount: &[u8]) -> u32
@@ -143,6 +148,21 @@ fn file_of(number: u64, trays: usize) -> usize
     3
 }
 
+// The argument with the name that the user gave a file: the wrapper follows links in the paths of the results and the state, and hands
+// on the names that it was given as its last two arguments.
+fn name_of(file: usize) -> usize {
+    if os::arg_count() != WRAPPED {
+        return file;
+    }
+    if file == 3 {
+        return 7;
+    }
+    if file == 4 {
+        return 8;
+    }
+    file
+}
+
 // Explains the report of a run, where it is a refusal. The prover refuses a caller that has another report.
 fn explain_report(
     listing: &[u8],
@@ -159,7 +179,8 @@ fn explain_report(
         Report::Paused => {}
         Report::Refused(r) => {
             let mut name = io::buffer();
-            let n = os::arg(file_of(number(r), trays.len()), &mut name);
+            let file = file_of(number(r), trays.len());
+            let n = os::arg(name_of(file), &mut name);
             write_explanation(&name[..n], listing, r);
         }
     }
@@ -307,35 +328,47 @@ fn with_claimed(amount: &[u8], results_new: &[u8], state_new: &[u8])
     }
 }
 
+// Gives up before anything is read: what the wrapper has prepared is removed.
+fn give_up(prepared: bool, results_new: &[u8], state_new: &[u8]) {
+    if prepared {
+        are_removed(results_new, state_new);
+    }
+}
+
 // The whole work with a budget: claims the new files before anything is read, the results' first.
-fn with_budget(amount: &[u8], prepared: bool)
+fn with_budget(amount: &[u8], prepared: bool, results_new: &[u8], state_new: &[u8])
     requires { ⌜ isNumber (numberIn (now amount)) ≡ true ⌝ }
 {
-    let mut results_new = [0u8; 4096];
-    let n = new_name_of(3, &mut results_new);
-    let mut state_new = [0u8; 4096];
-    let m = new_name_of(4, &mut state_new);
-    if !is_claimed(&results_new[..n], prepared) {
+    if !is_claimed(results_new, prepared) {
+        give_up(prepared, results_new, state_new);
         return;
     }
-    if !is_claimed(&state_new[..m], prepared) {
-        are_removed(&results_new[..n], b"");
+    if !is_claimed(state_new, prepared) {
+        give_up(prepared, results_new, state_new);
+        is_removed(results_new);
         return;
     }
-    with_claimed(amount, &results_new[..n], &state_new[..m]);
+    with_claimed(amount, results_new, state_new);
 }
 
 // A run with the budget that is given, where it is a number.
 fn run_files(prepared: bool) {
+    let mut results_new = [0u8; 4096];
+    let n = new_name_of(3, &mut results_new);
+    let mut state_new = [0u8; 4096];
+    let m = new_name_of(4, &mut state_new);
     let mut text = [0u8; 16];
-    let n = os::arg(5, &mut text);
-    match parse(&text[..n]) {
-        Parsed::Number(_) => with_budget(&text[..n], prepared),
+    let k = os::arg(5, &mut text);
+    match parse(&text[..k]) {
+        Parsed::Number(_) => {
+            with_budget(&text[..k], prepared, &results_new[..n], &state_new[..m]);
+        }
         Parsed::NoNumber => {
             io::write_all(
                 STDERR_FILENO,
                 b"run_listing: the budget is a number from 0 to 4294967295\n",
             );
+            give_up(prepared, &results_new[..n], &state_new[..m]);
         }
     }
 }
@@ -352,7 +385,7 @@ fn main() {
         }
         return;
     }
-    if count == 7 {
+    if count == WRAPPED {
         run_files(true);
         return;
     }
