@@ -30,7 +30,7 @@ pub fn text(w: Word) -> [u8; 4]
 }
 
 // The line begins with the four bytes of the word.
-fn begins_with(l: &[u8], w: Word) -> bool
+pub fn begins_with(l: &[u8], w: Word) -> bool
     requires { ⌜ length (now l) ≡ 40 ⌝ }
     ensures { λ r. ⌜ r ≡ begins (now (l .entry)) (textOf w) ⌝ }
 {

@@ -1,4 +1,5 @@
 pub mod Lining
+pub mod Settings
 pub mod Saving
 pub mod Worked
 pub mod Numbering

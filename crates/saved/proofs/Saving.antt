@@ -8,7 +8,6 @@ use borrow.Author.Tests.{eq-eqb, ne-eqb}
 use Rattle.model.specs.Limits as Limits
 use Rattle.model.specs.declared.machine.State.{State}
 use Rattle.model.specs.Text.{space}
-use Rattle.model.specs.Lines.{readLine}
 use Rattle.model.specs.Listing.{lineAt}
 use Rattle.saved.specs.declared.states.Target.{Target}
 use Rattle.saved.specs.declared.states.Target.the-variants.{Point, NoPoint}
@@ -22,11 +21,11 @@ module _ (t : List ℕ) where
   saved-short h = rw (ne-eqb _ _ h)
 
   -- any other text is told by its lines
-  pub saved-whole : length t ≡ 680 → savedIn t ≡ savedFrom (targetOn (readLine 1 (lineAt t 0))) (registersTo t Limits.registers)
+  pub saved-whole : length t ≡ 680 → savedIn t ≡ savedFrom (targetOn (lineAt t 0)) (registersTo t Limits.registers)
   unfolding savedIn
   saved-whole h = rw (eq-eqb _ _ h)
 
-  module _ (h : length t ≡ 680) (x : Target) (first : x ≡ targetOn (readLine 1 (lineAt t 0))) where
+  module _ (h : length t ≡ 680) (x : Target) (first : x ≡ targetOn (lineAt t 0)) where
     pub saved-nowhere : x ≡ NoPoint → noState ≡ savedIn t
     saved-nowhere e = rw (saved-whole h, ← first, e)
 
@@ -38,7 +37,7 @@ unfolding textOf
 text-is s = refl
 
 -- one line more, as the code counts
-pub registers-next : (t : List ℕ) (v : ℕ) → registersTo t (v + 1) ≡ withSetting (registersTo t v) v (settingOn (readLine (v + 2) (lineAt t (v + 1))) v)
+pub registers-next : (t : List ℕ) (v : ℕ) → registersTo t (v + 1) ≡ withSetting (registersTo t v) v (settingOn (lineAt t (v + 1)) v)
 unfolding registersTo
 registers-next t v = ap (registersTo t) (add-one v)
 

@@ -1,22 +1,22 @@
 -- A state as text: 17 lines of 40 bytes in a listing's own form, a JUMP to the point and then a SETC for each register, in order.
--- A text is read by the listing's reader, so every line is judged by 2 to 5; a text that is anything else is no state.
+-- Every line is judged by 2 to 5, as a line of a listing is; a text that is anything else is no state.
 use Prim.Native.Nat.{ℕ, zero, suc, _+_, _*_}
-use mathlib.Core.Bool.{true, false, cond}
+use mathlib.Core.Bool.{Bool, true, false, _&&_, cond}
 use mathlib.Core.List.{List, [], _∷_, _++_}
 use lib.ListN.{length, getD, set, take, drop, replicate}
 use lib.Dec.{eqb}
 use Rattle.model.specs.declared.text.Field.{Field}
 use Rattle.model.specs.declared.text.Field.the-variants.{Blank, Number}
+use Rattle.model.specs.declared.text.Word.{Word}
 use Rattle.model.specs.declared.text.Word.the-variants.{Setc as SETC, Jump as JUMP}
-use Rattle.model.specs.declared.machine.Instruction.{Instruction}
-use Rattle.model.specs.declared.machine.Instruction.the-variants.{Stop, Setc, Copy, Addw, Subw, Mulw, Divf, Load, Stor, Jump, Bltu, Bequ}
+use Rattle.model.specs.declared.text.FoundWord.the-variants.{Known}
 use Rattle.model.specs.declared.machine.State.{State}
-use Rattle.model.specs.declared.claims.Line.{Line}
-use Rattle.model.specs.declared.claims.Line.the-variants.{Refused as refusedLine, Claim as claimLine, Instruction as instructionLine}
+use Rattle.model.specs.declared.answers.Judgement.{Judgement}
+use Rattle.model.specs.declared.answers.Judgement.the-variants.{Accepted, Refused as refused}
 use Rattle.model.specs.Limits.{lineBytes, registers}
 use Rattle.model.specs.Text.{space}
-use Rattle.model.specs.Words.{textOf as wordText}
-use Rattle.model.specs.Lines.{readLine, lineSet}
+use Rattle.model.specs.Words.{textOf as wordText, begins}
+use Rattle.model.specs.Lines.{wellSpelled, fieldsIn, F1, F4, F6, judged, lineSet}
 use Rattle.model.specs.Listing.{lineAt}
 use Rattle.saved.specs.declared.states.Target.{Target}
 use Rattle.saved.specs.declared.states.Target.the-variants.{Point, NoPoint}
@@ -29,47 +29,25 @@ use Rattle.saved.specs.declared.states.Saved.{Saved}
 abbrev pub stateBytes : ℕ
 stateBytes = 680
 
--- the point that an instruction names: that of a JUMP
-abbrev pub targetOf : Instruction → Target
-targetOf Stop = NoPoint
-targetOf (Setc d c) = NoPoint
-targetOf (Copy d i) = NoPoint
-targetOf (Addw d i o) = NoPoint
-targetOf (Subw d i o) = NoPoint
-targetOf (Mulw d i o) = NoPoint
-targetOf (Divf d i o) = NoPoint
-targetOf (Load d w b a i k) = NoPoint
-targetOf (Stor v w a i k) = NoPoint
-targetOf (Jump t) = Point t
-targetOf (Bltu i t o) = NoPoint
-targetOf (Bequ i t o) = NoPoint
+-- nothing turns it back
+abbrev pub accepts : Judgement → Bool
+accepts Accepted = true
+accepts (refused r) = false
 
--- the number that an instruction gives register v: that of a SETC of this register
-abbrev pub settingOf : Instruction → ℕ → Setting
-settingOf Stop v = NoValue
-settingOf (Setc d c) v = cond (eqb d v) (Value c) NoValue
-settingOf (Copy d i) v = NoValue
-settingOf (Addw d i o) v = NoValue
-settingOf (Subw d i o) v = NoValue
-settingOf (Mulw d i o) v = NoValue
-settingOf (Divf d i o) v = NoValue
-settingOf (Load d w b a i k) v = NoValue
-settingOf (Stor u w a i k) v = NoValue
-settingOf (Jump t) v = NoValue
-settingOf (Bltu i t o) v = NoValue
-settingOf (Bequ i t o) v = NoValue
+-- a line of this word: well spelled, and accepted with its fields
+unfoldable pub isLineOf : Word → List ℕ → Bool
+unfolding wellSpelled begins judged fieldsIn
+isLineOf w l = wellSpelled l && begins l (wordText w) && accepts (judged 0 (Known w) (fieldsIn l))
 
--- the point that a line names
-abbrev pub targetOn : Line → Target
-targetOn (refusedLine r) = NoPoint
-targetOn (claimLine c) = NoPoint
-targetOn (instructionLine i) = targetOf i
+-- the point that a line names: that of a JUMP
+unfoldable pub targetOn : List ℕ → Target
+unfolding isLineOf fieldsIn
+targetOn l = cond (isLineOf JUMP l) (Point (F4 (fieldsIn l))) NoPoint
 
--- the number that a line gives register v
-abbrev pub settingOn : Line → ℕ → Setting
-settingOn (refusedLine r) v = NoValue
-settingOn (claimLine c) v = NoValue
-settingOn (instructionLine i) v = settingOf i v
+-- the number that a line gives register v: that of a SETC of this register
+unfoldable pub settingOn : List ℕ → ℕ → Setting
+unfolding isLineOf fieldsIn
+settingOn l v = cond (isLineOf SETC l && eqb (F1 (fieldsIn l)) v) (Value (F6 (fieldsIn l))) NoValue
 
 -- one register more; from a line without its number on, the text is no state
 abbrev pub withSetting : Reading → ℕ → Setting → Reading
@@ -82,9 +60,9 @@ noRegisters = record { whole = true; registers = replicate registers 0 }
 
 -- the first registers of a text; register v stands on line v + 2
 unfoldable pub registersTo : List ℕ → ℕ → Reading
-unfolding readLine
+unfolding settingOn
 registersTo t zero = noRegisters
-registersTo t (suc v) = withSetting (registersTo t v) v (settingOn (readLine (v + 2) (lineAt t (v + 1))) v)
+registersTo t (suc v) = withSetting (registersTo t v) v (settingOn (lineAt t (v + 1)) v)
 
 -- the answer for a text that is no state
 abbrev pub noState : Saved
@@ -97,8 +75,8 @@ savedFrom (Point p) r = record { whole = r .whole; state = record { point = p; r
 
 -- the state of a text, or that it is none
 unfoldable pub savedIn : List ℕ → Saved
-unfolding readLine registersTo
-savedIn t = cond (eqb (length t) stateBytes) (savedFrom (targetOn (readLine 1 (lineAt t 0))) (registersTo t registers)) noState
+unfolding targetOn registersTo
+savedIn t = cond (eqb (length t) stateBytes) (savedFrom (targetOn (lineAt t 0)) (registersTo t registers)) noState
 
 -- writing: the fields of the line that names the point
 abbrev pub pointFields : ℕ → List Field

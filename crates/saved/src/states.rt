@@ -1,20 +1,23 @@
 // A state as text: 17 lines like those of a listing, a JUMP to the point and then a SETC for each register, in order.
+use columns::field::value;
 use columns::write::set_line;
+use lines::fields::judge;
+use lines::line::is_well_spelled;
+use lines::line::read_fields;
 use lines::words;
-use model::claims::Line;
+use model::answers::Judgement;
 use model::limits::REGISTERS;
-use model::machine::Instruction;
 use model::machine::State;
 use model::text::Field;
+use model::text::FoundWord;
 use model::text::Word;
-use reader::read::read_line;
 ghost use mathlib.Core.Path.{_≡_};
 ghost use Prim.Native.Nat.{_+_, _<_};
 ghost use Rattle.model.specs.Limits as Limits;
-ghost use Rattle.model.specs.Lines.{readLine};
 ghost use Rattle.model.specs.Listing.{lineAt};
 ghost use lib.ListN.{length};
-ghost use Rattle.saved.specs.States.{targetOf, settingOf, targetOn, settingOn, withSetting, registersTo, savedIn, pointFields, registerFields, pointSet, registerSet, registersSet, textOf};
+ghost use Rattle.saved.specs.States as States;
+ghost use Rattle.saved.specs.States.{isLineOf, targetOn, settingOn, withSetting, registersTo, savedIn, pointFields, registerFields, pointSet, registerSet, registersSet, textOf};
 
 // The point that a line goes to.
 enum Target {
@@ -40,97 +43,58 @@ pub struct Saved {
     pub state: State,
 }
 
-// The point that an instruction names.
-fn target_of(i: Instruction) -> Target
-    ensures { λ r. ⌜ r ≡ targetOf i ⌝ }
+// Whether nothing is turned back.
+fn accepts(j: Judgement) -> bool
+    ensures { λ r. ⌜ r ≡ States.accepts j ⌝ }
 {
-    match i {
-        Instruction::Stop => Target::NoPoint,
-        Instruction::Setc { d: _, c: _ } => Target::NoPoint,
-        Instruction::Copy { d: _, i: _ } => Target::NoPoint,
-        Instruction::Addw { d: _, i: _, o: _ } => Target::NoPoint,
-        Instruction::Subw { d: _, i: _, o: _ } => Target::NoPoint,
-        Instruction::Mulw { d: _, i: _, o: _ } => Target::NoPoint,
-        Instruction::Divf { d: _, i: _, o: _ } => Target::NoPoint,
-        Instruction::Load {
-            d: _,
-            w: _,
-            table: _,
-            a: _,
-            i: _,
-            k: _,
-        } => Target::NoPoint,
-        Instruction::Stor {
-            v: _,
-            w: _,
-            a: _,
-            i: _,
-            k: _,
-        } => Target::NoPoint,
-        Instruction::Jump { t } => Target::Point(t),
-        Instruction::Bltu { i: _, t: _, o: _ } => Target::NoPoint,
-        Instruction::Bequ { i: _, t: _, o: _ } => Target::NoPoint,
+    match j {
+        Judgement::Accepted => true,
+        Judgement::Refused(_) => false,
     }
 }
 
-// The number that an instruction gives register v.
-fn setting_of(i: Instruction, v: usize) -> Setting
-    ensures { λ r. ⌜ r ≡ settingOf i v ⌝ }
+// Whether a line is one of this word, well spelled and accepted with its fields.
+fn is_line_of(w: Word, l: &[u8]) -> bool
+    requires { ⌜ length (now l) ≡ 40 ⌝ }
+    ensures { λ r. ⌜ r ≡ isLineOf w (now (l .entry)) ⌝ }
 {
-    match i {
-        Instruction::Stop => Setting::NoValue,
-        Instruction::Setc { d, c } => {
-            if d == v {
-                return Setting::Value(c);
-            }
-            Setting::NoValue
-        }
-        Instruction::Copy { d: _, i: _ } => Setting::NoValue,
-        Instruction::Addw { d: _, i: _, o: _ } => Setting::NoValue,
-        Instruction::Subw { d: _, i: _, o: _ } => Setting::NoValue,
-        Instruction::Mulw { d: _, i: _, o: _ } => Setting::NoValue,
-        Instruction::Divf { d: _, i: _, o: _ } => Setting::NoValue,
-        Instruction::Load {
-            d: _,
-            w: _,
-            table: _,
-            a: _,
-            i: _,
-            k: _,
-        } => Setting::NoValue,
-        Instruction::Stor {
-            v: _,
-            w: _,
-            a: _,
-            i: _,
-            k: _,
-        } => Setting::NoValue,
-        Instruction::Jump { t: _ } => Setting::NoValue,
-        Instruction::Bltu { i: _, t: _, o: _ } => Setting::NoValue,
-        Instruction::Bequ { i: _, t: _, o: _ } => Setting::NoValue,
+    if !is_well_spelled(l) {
+        return false;
     }
+    if !words::begins_with(l, w) {
+        return false;
+    }
+    accepts(judge(0, FoundWord::Known(w), read_fields(l)))
 }
 
-// The point that the first line names.
-fn target_on(l: Line) -> Target
-    ensures { λ r. ⌜ r ≡ targetOn l ⌝ }
+// The point that a line names.
+fn target_on(l: &[u8]) -> Target
+    requires { ⌜ length (now l) ≡ 40 ⌝ }
+    ensures { λ r. ⌜ r ≡ targetOn (now (l .entry)) ⌝ }
 {
-    match l {
-        Line::Refused(_) => Target::NoPoint,
-        Line::Claim(_) => Target::NoPoint,
-        Line::Instruction(i) => target_of(i),
+    if is_line_of(Word::Jump, l) {
+        let fs = read_fields(l);
+        let f4 = fs[3];
+        return Target::Point(value(f4) as usize);
     }
+    Target::NoPoint
 }
 
 // The number that a line sets register v to.
-fn setting_on(l: Line, v: usize) -> Setting
-    ensures { λ r. ⌜ r ≡ settingOn l v ⌝ }
+fn setting_on(l: &[u8], v: usize) -> Setting
+    requires { ⌜ length (now l) ≡ 40 ⌝ }
+    ensures { λ r. ⌜ r ≡ settingOn (now (l .entry)) v ⌝ }
 {
-    match l {
-        Line::Refused(_) => Setting::NoValue,
-        Line::Claim(_) => Setting::NoValue,
-        Line::Instruction(i) => setting_of(i, v),
+    if !is_line_of(Word::Setc, l) {
+        return Setting::NoValue;
     }
+    let fs = read_fields(l);
+    let f1 = fs[0];
+    let f6 = fs[5];
+    if value(f1) == v as u64 {
+        return Setting::Value(value(f6) as u32);
+    }
+    Setting::NoValue
 }
 
 // One register more.
@@ -157,13 +121,13 @@ fn with_setting(r: Reading, v: usize, s: Setting) -> Reading
 // Register v, on line v + 2.
 fn with_register(text: &[u8], r: Reading, v: usize) -> Reading
     requires { ⌜ (length (now text) ≡ 680) × (v < Limits.registers) ⌝ }
-    ensures { λ x. ⌜ x ≡ withSetting r v (settingOn (readLine (v + 2) (lineAt (now (text .entry)) (v + 1))) v) ⌝ }
+    ensures { λ x. ⌜ x ≡ withSetting r v (settingOn (lineAt (now (text .entry)) (v + 1)) v) ⌝ }
 {
     let k = v + 1;
     let a = k * 40;
     let e = a + 40;
-    let l = read_line(v + 2, &text[a..e]);
-    with_setting(r, v, setting_on(l, v))
+    let s = setting_on(&text[a..e], v);
+    with_setting(r, v, s)
 }
 
 // The registers, from lines 2 to 17.
@@ -199,7 +163,7 @@ pub fn read_state(text: &[u8]) -> Saved
     }
     let r = read_registers(text);
     let registers = r.registers;
-    match target_on(read_line(1, &text[0..40])) {
+    match target_on(&text[0..40]) {
         Target::NoPoint => Saved {
             whole: false,
             state: none,

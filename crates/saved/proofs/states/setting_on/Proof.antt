@@ -1,29 +1,56 @@
+-- A SETC sets its register, to a number that fits. Assumes nothing.
+use mathlib.Core.Path.{sym, _∙_}
+use native.Mathlib.Omega.{arith}
+use borrow.Author.Tests.{not-true, not-false}
+use Rattle.saved.proofs.Settings.{no-setting, other-setting, setting, setting-fits}
 use borrow.Author.Needs.{needs}
 use Rattle.saved.proofs.states.setting_on.Statement.{statement}
 use Rattle.saved.proofs.states.setting_on.Tie as tie
 
-enum-told : tie.Need-enum-told
-enum-told c = search needs
-
-enum-told-2 : tie.Need-enum-told-2
-enum-told-2 c = search needs
-
-enum-known-l : tie.Need-enum-known-l
-enum-known-l c = search needs
-
-setting-of-requires : tie.Need-setting-of-requires
-setting-of-requires c κs = search needs
+is-line-of-requires : tie.Need-is-line-of-requires
+is-line-of-requires c κs = search needs
 
 returns : tie.Need-returns
-returns c = search needs
+returns c = no-setting _ _ (sym (c .before .is-line-of .ensures) ∙ not-true _ (c .if1 .taken))
+
+read-fields-requires : tie.Need-read-fields-requires
+read-fields-requires c κs = search needs
+
+array-copy-out-f1 : tie.Need-array-copy-out-f1
+array-copy-out-f1 c = search needs
+
+array-copy-out-f6 : tie.Need-array-copy-out-f6
+array-copy-out-f6 c = search needs
+
+value-requires : tie.Need-value-requires
+value-requires c κs = search needs
+
+value-requires-2 : tie.Need-value-requires-2
+value-requires-2 c κs = search needs
+
+cast-t18 : tie.Need-cast-t18
+cast-t18 c = omega (arith, rw (← c .before .before .before .before .before .read-fields .ensures, ← c .value2 .ensures) at (setting-fits _ (sym (c .before .before .before .before .before .before .before .is-line-of .ensures) ∙ not-false _ (c .before .before .before .before .before .before .if1 .left))))
 
 returns-2 : tie.Need-returns-2
-returns-2 c = search needs
+returns-2 c =
+    rw (c .value2 .ensures, c .before .before .before .before .before .read-fields .ensures)
+    (setting _ _ (sym (c .before .before .before .before .before .before .before .is-line-of .ensures) ∙ not-false _ (c .before .before .before .before .before .before .if1 .left)) (rw (← c .before .before .before .before .before .read-fields .ensures, ← c .before .before .value .ensures) (c .before .if2 .taken)))
 
 returns-3 : tie.Need-returns-3
-returns-3 c = simp (← c .setting-of .ensures, c .before .before .l .given .1)
+returns-3 c =
+    other-setting _ _ (sym (c .before .before .before .before .before .before .is-line-of .ensures) ∙ not-false _ (c .before .before .before .before .before .if1 .left)) (λ e. c .if2 .left (rw (c .before .value .ensures, c .before .before .before .before .read-fields .ensures) e))
 
 pub setting-on-spec : {M : Type 1} → statement M
 setting-on-spec =
     tie.close
-    (tie.spec enum-told enum-told-2 enum-known-l setting-of-requires returns returns-2 returns-3)
+    (tie.spec
+    is-line-of-requires
+    returns
+    read-fields-requires
+    array-copy-out-f1
+    array-copy-out-f6
+    value-requires
+    value-requires-2
+    cast-t18
+    returns-2
+    returns-3)

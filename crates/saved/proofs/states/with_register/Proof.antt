@@ -1,3 +1,4 @@
+-- The line of the register is cut out of the text. Assumes nothing.
 use Rattle.saved.proofs.Lining.{cut}
 use borrow.Author.Needs.{needs}
 use Rattle.saved.proofs.states.with_register.Statement.{statement}
@@ -12,20 +13,14 @@ mul-a c = search needs
 add-e : tie.Need-add-e
 add-e c = search needs
 
-add-read-line : tie.Need-add-read-line
-add-read-line c = search needs
+sub-setting-on : tie.Need-sub-setting-on
+sub-setting-on c = search needs
 
-sub-read-line : tie.Need-sub-read-line
-sub-read-line c = search needs
+part-setting-on-start : tie.Need-part-setting-on-start
+part-setting-on-start c = search needs
 
-part-read-line-start : tie.Need-part-read-line-start
-part-read-line-start c = search needs
-
-part-read-line-end : tie.Need-part-read-line-end
-part-read-line-end c = search needs
-
-read-line-requires : tie.Need-read-line-requires
-read-line-requires c κs = search needs
+part-setting-on-end : tie.Need-part-setting-on-end
+part-setting-on-end c = search needs
 
 setting-on-requires : tie.Need-setting-on-requires
 setting-on-requires c κs = search needs
@@ -34,7 +29,7 @@ with-setting-requires : tie.Need-with-setting-requires
 with-setting-requires c κs = search needs
 
 returns : tie.Need-returns
-returns c = rw (c .with-setting .ensures, c .before .setting-on .ensures, c .before .before .read-line .ensures, cut)
+returns c = rw (c .with-setting .ensures, c .before .setting-on .ensures, cut)
 
 pub with-register-spec : {M : Type 1} → statement M
 with-register-spec =
@@ -43,11 +38,9 @@ with-register-spec =
     add-k
     mul-a
     add-e
-    add-read-line
-    sub-read-line
-    part-read-line-start
-    part-read-line-end
-    read-line-requires
+    sub-setting-on
+    part-setting-on-start
+    part-setting-on-end
     setting-on-requires
     with-setting-requires
     returns)
