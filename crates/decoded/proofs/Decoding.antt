@@ -30,6 +30,7 @@ use Rattle.model.proofs.Limited.{line-limited}
 use Rattle.model.proofs.Tests.{every-below}
 use Rattle.decoded.specs.declared.rows.Row.{Row}
 use Rattle.decoded.specs.Encoded.{rowOf, refusedRow}
+use Rattle.decoded.specs.Kinds as Kinds
 use Rattle.decoded.specs.Decoded.{operandIn, instructionFrom, stripeFrom, lineFrom}
 
 word-same : (n : ℕ) → n ≤ MAX → n % Limits.modulus ≡ n
@@ -105,7 +106,7 @@ refused-same = refl
 -- where a row holds an instruction, it is this one
 pub instruction-held : (r : Row) (i : Instruction) → lineFrom r ≡ instructionLine i → instructionFrom r ≡ i
 unfolding lineFrom
-instruction-held r i e = go (eqb (r .kind) 15) (eqb (r .kind) 13) (eqb (r .kind) 14) (eqb (r .kind) 0) e
+instruction-held r i e = go (eqb (r .kind) Kinds.STRP) (eqb (r .kind) Kinds.LEAS) (eqb (r .kind) Kinds.MOST) (eqb (r .kind) Kinds.REFUSED) e
   where
     go : (a b c d : Bool)
         → cond a (claimLine (Strp (stripeFrom r))) (cond b (claimLine (Leas (r .first) (r .sixth))) (cond c (claimLine (Most (r .first) (r .sixth))) (cond d (refusedLine ListingLength) (instructionLine (instructionFrom r))))) ≡ instructionLine i

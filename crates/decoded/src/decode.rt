@@ -1,4 +1,4 @@
-// The line that a row holds.
+// What a row holds.
 use crate::kinds::ADDW;
 use crate::kinds::BLTU;
 use crate::kinds::COPY;
@@ -6,9 +6,7 @@ use crate::kinds::DIVF;
 use crate::kinds::JUMP;
 use crate::kinds::LEAS;
 use crate::kinds::LOAD;
-use crate::kinds::MOST;
 use crate::kinds::MULW;
-use crate::kinds::REFUSED;
 use crate::kinds::SETC;
 use crate::kinds::STOP;
 use crate::kinds::STOR;
@@ -19,9 +17,7 @@ use crate::rows::index_at;
 use crate::rows::kind_at;
 use crate::rows::number_at;
 use crate::rows::row_at;
-use model::answers::Refusal;
 use model::claims::Claim;
-use model::claims::Line;
 use model::claims::Stripe;
 use model::limits::MODULUS;
 use model::machine::Instruction;
@@ -35,7 +31,7 @@ ghost use Rattle.model.specs.Limits.{modulus};
 ghost use Rattle.model.specs.Instructions.{hasTarget};
 ghost use Rattle.model.specs.Lines.{widthFrom, tableFrom};
 ghost use Rattle.decoded.specs.Rows.{rowAt};
-ghost use Rattle.decoded.specs.Decoded.{operandIn, operandOf, branchFrom, accessFrom, arithmeticFrom, instructionFrom, stripeFrom, claimFrom, lineFrom};
+ghost use Rattle.decoded.specs.Decoded.{operandIn, operandOf, branchFrom, accessFrom, arithmeticFrom, instructionFrom, stripeFrom, claimFrom};
 
 // The low 32 bits: every number that a register can hold is kept whole.
 pub fn word(n: u64) -> u32
@@ -198,31 +194,6 @@ fn stripe_from(r: Row) -> Stripe
         plus: r.sixth,
         minus: r.seventh,
     }
-}
-
-// The line of a row.
-pub fn line_from(r: Row) -> Line
-    ensures { λ x. ⌜ x ≡ lineFrom r ⌝ }
-{
-    if r.kind == STRP {
-        return Line::Claim(Claim::Strp(stripe_from(r)));
-    }
-    if r.kind == LEAS {
-        return Line::Claim(Claim::Leas {
-            v: r.first as usize,
-            least: r.sixth,
-        });
-    }
-    if r.kind == MOST {
-        return Line::Claim(Claim::Most {
-            v: r.first as usize,
-            most: r.sixth,
-        });
-    }
-    if r.kind == REFUSED {
-        return Line::Refused(Refusal::ListingLength);
-    }
-    Line::Instruction(instruction_from(r))
 }
 
 // The claim that the k-th row holds, where it holds one. Only the numbers of its kind are read.

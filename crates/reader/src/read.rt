@@ -4,7 +4,6 @@ use crate::scan::Progress;
 use crate::scan::Sort;
 use crate::scan::after;
 use crate::scan::begin;
-use decoded::decode::line_from;
 use decoded::encode::refused_row;
 use decoded::encode::row_of;
 use decoded::rows::Row;
@@ -15,7 +14,6 @@ use lines::line::read_fields;
 use lines::words::find_word;
 use model::answers::Judgement;
 use model::answers::Refusal;
-use model::claims::Line;
 use model::limits::LINE_BYTES;
 use model::text::Field;
 use model::text::FoundWord;
@@ -106,23 +104,6 @@ fn read_bytes(place: usize, l: &[u8]) -> Read
         return read_found(place, w, fs);
     }
     refused(Refusal::LineBytes { line: place })
-}
-
-// A line by itself, with its number.
-pub fn read_line(place: usize, l: &[u8]) -> Line
-    requires { ⌜ length (now l) ≡ lineBytes ⌝ }
-    ensures { λ r. ⌜ r ≡ readLine place (now (l .entry)) ⌝ }
-{
-    let x = read_bytes(place, l);
-    let row = x.row;
-    let sort = x.sort;
-    match sort {
-        Sort::Refused(r) => Line::Refused(r),
-        Sort::Leas(_) => line_from(row),
-        Sort::Most(_) => line_from(row),
-        Sort::Strp => line_from(row),
-        Sort::Instruction => line_from(row),
-    }
 }
 
 // The first n lines: what was read, or the first refusal.
