@@ -1,6 +1,5 @@
 -- One line: what is read of it is the row and the sort of the line that the definition reads. Assumes nothing.
 use Prim.Native.Nat.{ℕ}
-use native.Mathlib.Omega.{arith}
 use mathlib.Core.Path.{_≡_, refl, sym, ap, subst, _∙_}
 use mathlib.Core.Bool.{true, false}
 use mathlib.Core.List.{List}
@@ -8,9 +7,8 @@ use Rattle.model.specs.declared.text.Field.{Field}
 use Rattle.model.specs.declared.text.Word.{Word}
 use Rattle.model.specs.declared.text.Word.the-variants.{Stop as STOP, Setc as SETC, Copy as COPY, Addw as ADDW, Subw as SUBW, Mulw as MULW, Divf as DIVF, Load as LOAD, Stor as STOR, Jump as JUMP, Bltu as BLTU, Bequ as BEQU, Leas as LEAS, Most as MOST, Strp as STRP}
 use Rattle.model.specs.declared.text.FoundWord.the-variants.{Unknown, Known}
-use Rattle.model.specs.declared.claims.Claim.the-variants.{Leas, Most, Strp}
 use Rattle.model.specs.declared.claims.Line.{Line}
-use Rattle.model.specs.declared.claims.Line.the-variants.{Refused as refusedLine, Claim as claimLine, Instruction as instructionLine}
+use Rattle.model.specs.declared.claims.Line.the-variants.{Refused as refusedLine}
 use Rattle.model.specs.declared.answers.Refusal.{Refusal}
 use Rattle.model.specs.declared.answers.Refusal.the-variants.{LineBytes, UnknownWord}
 use Rattle.model.specs.declared.answers.Judgement.{Judgement}
@@ -24,8 +22,7 @@ use Rattle.decoded.specs.Decoded as Decoded
 use Rattle.decoded.specs.Decoded.{kept}
 use Rattle.decoded.proofs.Decoding.{line-same, refused-same}
 use Rattle.reader.specs.declared.read.Read.{Read}
-use Rattle.reader.specs.declared.scan.Sort.{Sort}
-use Rattle.reader.specs.declared.scan.Sort.the-variants.{Refused as refusedSort, Leas as leasSort, Most as mostSort, Strp as strpSort, Instruction as instructionSort}
+use Rattle.reader.specs.declared.scan.Sort.the-variants.{Refused as refusedSort}
 use Rattle.reader.specs.Scan.{sortOf, sortFrom}
 use Rattle.reader.specs.Read.{ReadAs}
 
@@ -93,28 +90,3 @@ spelled place l e = rw e
 pub misspelled : (place : ℕ) (l : List ℕ) → wellSpelled l ≡ false → readLine place l ≡ refusedLine (LineBytes place)
 unfolding readLine
 misspelled place l e = rw e
-
--- a line from its row and its sort
-pub refused-whole : (l : Line) (r : Refusal) → sortOf l ≡ refusedSort r → refusedLine r ≡ l
-refused-whole (refusedLine s) r e = cc
-refused-whole (claimLine (Leas v n)) r e = let z : _≡_ {A = ℕ} 0 1 = cc in absurd (omega arith)
-refused-whole (claimLine (Most v n)) r e = let z : _≡_ {A = ℕ} 0 1 = cc in absurd (omega arith)
-refused-whole (claimLine (Strp t)) r e = let z : _≡_ {A = ℕ} 0 1 = cc in absurd (omega arith)
-refused-whole (instructionLine i) r e = let z : _≡_ {A = ℕ} 0 1 = cc in absurd (omega arith)
-
-pub whole : (l : Line) (s : Sort) → sortOf l ≡ s → ((r : Refusal) → s ≡ refusedSort r → ⊥) → kept l ≡ l
-whole (refusedLine r) s e h = absurd (h r (sym e))
-whole (claimLine c) s e h = refl
-whole (instructionLine i) s e h = refl
-
-pub leas-accepted : (v : ℕ) (r : Refusal) → leasSort v ≡ refusedSort r → ⊥
-leas-accepted v r e = let z : _≡_ {A = ℕ} 0 1 = cc in absurd (omega arith)
-
-pub most-accepted : (v : ℕ) (r : Refusal) → mostSort v ≡ refusedSort r → ⊥
-most-accepted v r e = let z : _≡_ {A = ℕ} 0 1 = cc in absurd (omega arith)
-
-pub strp-accepted : (r : Refusal) → strpSort ≡ refusedSort r → ⊥
-strp-accepted r e = let z : _≡_ {A = ℕ} 0 1 = cc in absurd (omega arith)
-
-pub instruction-accepted : (r : Refusal) → instructionSort ≡ refusedSort r → ⊥
-instruction-accepted r e = let z : _≡_ {A = ℕ} 0 1 = cc in absurd (omega arith)
