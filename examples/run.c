@@ -10,10 +10,13 @@ int main(void)
     uint8_t results[3] = {0};
     rithwellu_state state = {0, {0, 3}}; /* point 0; register 1 holds the number of trays */
     uint64_t answer[6];
-    FILE *file = fopen("examples/viability.lst", "rb");
+    const char *path = "examples/viability.lst";
+    FILE *file = fopen(path, "rb");
 
-    if (file == NULL)
+    if (file == NULL) {
+        perror(path);
         return 1;
+    }
     size_t length = fread(listing, 1, sizeof listing, file);
     fclose(file);
     do {

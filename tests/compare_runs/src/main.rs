@@ -1,8 +1,5 @@
-//! Compares the proved runner, through both of its entries, with the reference on every family of runs, and tries the
-//! program over files. Counted are: each family, that no outcome is rare, and each test of the program.
-
-mod folder;
-mod program;
+//! Compares the proved runner, through both of its entries, with the reference on every family of runs. Counted are:
+//! each family, and that no outcome is rare.
 
 use reference::{Outcome, Refusal, Run, State};
 use std::process::ExitCode;
@@ -12,10 +9,7 @@ use trials::Count;
 fn main() -> ExitCode {
     let mut count = Count::default();
     compare_families(&mut count);
-    for (name, outcome) in program::tests() {
-        count.test(outcome.map_err(|why| format!("{name}: {why}")));
-    }
-    println!("counted: each family of runs, once that no outcome is rare, and each test of the program over files");
+    println!("counted: each family of runs, and once that no outcome is rare");
     count.finish()
 }
 

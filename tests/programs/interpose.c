@@ -1,0 +1,343 @@
+/* Breaks a run off at its n-th call that changes a file. It is preloaded into every process of the run (LD_PRELOAD), and counts
+   such calls over all of them. The environment says when and how:
+
+   BREAK_FILE  the file that all processes share: what 'struct shared' holds
+   BREAK_AT    the number of the call, from 1; at 0 the calls are only counted
+   BREAK_HOW   kill    the process group is killed before the call
+               after   the process group is killed right after the call
+               part    the call is a write: it writes half its bytes, then the group is killed; only writes are counted
+               alone   the process that makes the call is killed before it, and no other
+               fail    the call fails with EIO
+               fails   this call and all that follow fail with EIO
+   BREAK_IN    only calls of processes of this name count; empty: those of all
+
+   What bash and the C library write through a stream is seen where the stream is flushed. */
+#define _GNU_SOURCE
+#include <dlfcn.h>
+#include <errno.h>
+#include <fcntl.h>
+#include <signal.h>
+#include <stdarg.h>
+#include <stdint.h>
+#include <stdio.h>
+#include <stdio_ext.h>
+#include <stdlib.h>
+#include <string.h>
+#include <sys/mman.h>
+#include <sys/stat.h>
+#include <unistd.h>
+
+struct shared {
+    uint32_t calls; /* made so far */
+    int32_t group;  /* of the processes, 0 until the first of them is there */
+    char broken[1016]; /* the call that was broken, in words */
+};
+
+enum action { NOTHING, FAIL, AFTER, PART };
+
+static struct shared *shared;
+static uint32_t at;
+static char how[8];
+
+/* Opens a file past the functions below. */
+static int open_past(const char *path)
+{
+    int (*next)(const char *, int, ...) = dlsym(RTLD_NEXT, "open");
+
+    return next(path, O_RDWR | O_CLOEXEC);
+}
+
+__attribute__((constructor)) static void begin(void)
+{
+    const char *file = getenv("BREAK_FILE"), *number = getenv("BREAK_AT"), *manner = getenv("BREAK_HOW"),
+               *name = getenv("BREAK_IN");
+    int32_t none = 0;
+
+    if (file == NULL || number == NULL || manner == NULL)
+        return;
+    if (name != NULL && *name != 0 && strcmp(name, program_invocation_short_name) != 0)
+        return;
+    int fd = open_past(file);
+    if (fd < 0)
+        return;
+    void *place = mmap(NULL, sizeof *shared, PROT_READ | PROT_WRITE, MAP_SHARED, fd, 0);
+    close(fd);
+    if (place == MAP_FAILED)
+        return;
+    at = (uint32_t)strtoul(number, NULL, 10);
+    snprintf(how, sizeof how, "%s", manner);
+    shared = place;
+    __atomic_compare_exchange_n(&shared->group, &none, getpgrp(), 0, __ATOMIC_SEQ_CST, __ATOMIC_SEQ_CST);
+}
+
+static int is_how(const char *manner)
+{
+    return strcmp(how, manner) == 0;
+}
+
+static void end_all(void)
+{
+    kill(-shared->group, SIGKILL);
+    kill(getpid(), SIGKILL);
+    for (;;)
+        pause();
+}
+
+/* Counts a call, and says what is due at it. */
+static enum action counted(const char *call, const char *path)
+{
+    if (shared == NULL || (is_how("part") && strcmp(call, "write") != 0))
+        return NOTHING;
+    uint32_t now = __atomic_add_fetch(&shared->calls, 1, __ATOMIC_SEQ_CST);
+    if (at != 0 && now > at && is_how("fails"))
+        return FAIL;
+    if (now != at)
+        return NOTHING;
+    snprintf(shared->broken, sizeof shared->broken, "%s: %s of %s", program_invocation_short_name, call, path);
+    if (is_how("kill"))
+        end_all();
+    if (is_how("alone"))
+        kill(getpid(), SIGKILL);
+    return is_how("after") ? AFTER : is_how("part") ? PART : FAIL;
+}
+
+static enum action counted_of(const char *call, int fd)
+{
+    char link[40], path[800];
+
+    if (shared == NULL)
+        return NOTHING;
+    snprintf(link, sizeof link, "/proc/self/fd/%d", fd);
+    ssize_t n = readlink(link, path, sizeof path - 1);
+    path[n < 0 ? 0 : n] = 0;
+    return counted(call, path);
+}
+
+static int is_regular(int fd)
+{
+    struct stat found;
+    int saved = errno, is = fstat(fd, &found) == 0 && S_ISREG(found.st_mode);
+
+    errno = saved;
+    return is;
+}
+
+static int failed(void)
+{
+    errno = EIO;
+    return -1;
+}
+
+/* A call that is passed on, with what is due before and after it. */
+#define PASSED_ON(type, name, due, ...) \
+    enum action action = due; \
+    if (action == FAIL) \
+        return failed(); \
+    __typeof__(name) *next = (__typeof__(name) *)dlsym(RTLD_NEXT, #name); \
+    type answer = next(__VA_ARGS__); \
+    if (action == AFTER) \
+        end_all(); \
+    return answer
+
+/* Opening */
+
+static int changes(const char *path, int flags)
+{
+    if (strncmp(path, "/dev/", 5) == 0 || strncmp(path, "/proc/", 6) == 0)
+        return 0;
+    return (flags & (O_CREAT | O_TRUNC)) != 0 || (flags & O_ACCMODE) != O_RDONLY;
+}
+
+#define MODE_OF(flags) \
+    mode_t mode = 0; \
+    if ((flags & O_CREAT) != 0 || (flags & O_TMPFILE) == O_TMPFILE) { \
+        va_list rest; \
+        va_start(rest, flags); \
+        mode = va_arg(rest, mode_t); \
+        va_end(rest); \
+    }
+
+#define OPEN(name) \
+    int name(const char *path, int flags, ...) \
+    { \
+        MODE_OF(flags) \
+        PASSED_ON(int, name, changes(path, flags) ? counted("open", path) : NOTHING, path, flags, mode); \
+    }
+OPEN(open)
+OPEN(open64)
+
+#define OPENAT(name) \
+    int name(int folder, const char *path, int flags, ...) \
+    { \
+        MODE_OF(flags) \
+        PASSED_ON(int, name, changes(path, flags) ? counted("open", path) : NOTHING, folder, path, flags, mode); \
+    }
+OPENAT(openat)
+OPENAT(openat64)
+
+int creat(const char *path, mode_t mode)
+{
+    PASSED_ON(int, creat, counted("open", path), path, mode);
+}
+
+int creat64(const char *path, mode_t mode)
+{
+    PASSED_ON(int, creat64, counted("open", path), path, mode);
+}
+
+/* Writing */
+
+ssize_t write(int fd, const void *bytes, size_t n)
+{
+    enum action action = is_regular(fd) ? counted_of("write", fd) : NOTHING;
+    ssize_t (*next)(int, const void *, size_t) = dlsym(RTLD_NEXT, "write");
+
+    if (action == FAIL)
+        return failed();
+    ssize_t answer = next(fd, bytes, action == PART ? n / 2 : n);
+    if (action == AFTER || action == PART)
+        end_all();
+    return answer;
+}
+
+#define PWRITE(name, offset_type) \
+    ssize_t name(int fd, const void *bytes, size_t n, offset_type offset) \
+    { \
+        enum action action = is_regular(fd) ? counted_of("write", fd) : NOTHING; \
+        ssize_t (*next)(int, const void *, size_t, offset_type) = dlsym(RTLD_NEXT, #name); \
+        if (action == FAIL) \
+            return failed(); \
+        ssize_t answer = next(fd, bytes, action == PART ? n / 2 : n, offset); \
+        if (action == AFTER || action == PART) \
+            end_all(); \
+        return answer; \
+    }
+PWRITE(pwrite, off_t)
+PWRITE(pwrite64, off64_t)
+
+/* Bytes that wait in a stream over a regular file. */
+static enum action counted_stream(FILE *stream)
+{
+    if (stream == NULL || __fpending(stream) == 0 || !is_regular(fileno(stream)))
+        return NOTHING;
+    return counted_of("flush", fileno(stream));
+}
+
+int fflush(FILE *stream)
+{
+    PASSED_ON(int, fflush, counted_stream(stream), stream);
+}
+
+int fclose(FILE *stream)
+{
+    PASSED_ON(int, fclose, counted_stream(stream), stream);
+}
+
+int ftruncate(int fd, off_t length)
+{
+    PASSED_ON(int, ftruncate, counted_of("truncate", fd), fd, length);
+}
+
+int ftruncate64(int fd, off64_t length)
+{
+    PASSED_ON(int, ftruncate64, counted_of("truncate", fd), fd, length);
+}
+
+int fsync(int fd)
+{
+    PASSED_ON(int, fsync, counted_of("sync", fd), fd);
+}
+
+int fdatasync(int fd)
+{
+    PASSED_ON(int, fdatasync, counted_of("sync", fd), fd);
+}
+
+/* Names */
+
+int rename(const char *from, const char *to)
+{
+    PASSED_ON(int, rename, counted("rename", from), from, to);
+}
+
+int renameat(int here, const char *from, int there, const char *to)
+{
+    PASSED_ON(int, renameat, counted("rename", from), here, from, there, to);
+}
+
+int renameat2(int here, const char *from, int there, const char *to, unsigned flags)
+{
+    PASSED_ON(int, renameat2, counted("rename", from), here, from, there, to, flags);
+}
+
+int link(const char *from, const char *to)
+{
+    PASSED_ON(int, link, counted("link", to), from, to);
+}
+
+int linkat(int here, const char *from, int there, const char *to, int flags)
+{
+    PASSED_ON(int, linkat, counted("link", to), here, from, there, to, flags);
+}
+
+int symlink(const char *from, const char *to)
+{
+    PASSED_ON(int, symlink, counted("link", to), from, to);
+}
+
+int unlink(const char *path)
+{
+    PASSED_ON(int, unlink, counted("unlink", path), path);
+}
+
+int unlinkat(int folder, const char *path, int flags)
+{
+    PASSED_ON(int, unlinkat, counted("unlink", path), folder, path, flags);
+}
+
+int mkdir(const char *path, mode_t mode)
+{
+    PASSED_ON(int, mkdir, counted("mkdir", path), path, mode);
+}
+
+int rmdir(const char *path)
+{
+    PASSED_ON(int, rmdir, counted("rmdir", path), path);
+}
+
+/* Permissions */
+
+int chmod(const char *path, mode_t mode)
+{
+    PASSED_ON(int, chmod, counted("chmod", path), path, mode);
+}
+
+int fchmod(int fd, mode_t mode)
+{
+    PASSED_ON(int, fchmod, counted_of("chmod", fd), fd, mode);
+}
+
+int fchmodat(int folder, const char *path, mode_t mode, int flags)
+{
+    PASSED_ON(int, fchmodat, counted("chmod", path), folder, path, mode, flags);
+}
+
+int chown(const char *path, uid_t owner, gid_t group)
+{
+    PASSED_ON(int, chown, counted("chown", path), path, owner, group);
+}
+
+int lchown(const char *path, uid_t owner, gid_t group)
+{
+    PASSED_ON(int, lchown, counted("chown", path), path, owner, group);
+}
+
+int fchown(int fd, uid_t owner, gid_t group)
+{
+    PASSED_ON(int, fchown, counted_of("chown", fd), fd, owner, group);
+}
+
+int fchownat(int folder, const char *path, uid_t owner, gid_t group, int flags)
+{
+    PASSED_ON(int, fchownat, counted("chown", path), folder, path, owner, group, flags);
+}

@@ -1,0 +1,93 @@
+//! The library that breaks a run off at one of its calls: compiled once, and preloaded into a command.
+
+use crate::folder::root;
+use std::fs;
+use std::path::PathBuf;
+use std::process::Command;
+use std::sync::OnceLock;
+
+/// How a call is broken, as the head of interpose.c says.
+#[derive(Clone, Copy, PartialEq, Eq)]
+pub enum How {
+    Kill,
+    After,
+    Part,
+    Alone,
+    Fail,
+    Fails,
+}
+
+/// The processes whose calls are counted.
+#[derive(Clone, Copy, PartialEq, Eq)]
+pub enum Whose {
+    Everyone,
+    Program,
+}
+
+/// The file that the processes of a run share with the test.
+pub struct Breaker {
+    shared: PathBuf,
+}
+
+const SHARED_BYTES: usize = 1024;
+/// Where the words for the broken call begin.
+const WORDS: usize = 8;
+
+impl How {
+    fn name(self) -> &'static str {
+        match self {
+            How::Kill => "kill",
+            How::After => "after",
+            How::Part => "part",
+            How::Alone => "alone",
+            How::Fail => "fail",
+            How::Fails => "fails",
+        }
+    }
+
+    /// Whether the wrapper is killed too.
+    pub fn ends_all(self) -> bool {
+        matches!(self, How::Kill | How::After | How::Part)
+    }
+}
+
+/// The compiled library.
+fn library() -> &'static PathBuf {
+    static LIBRARY: OnceLock<PathBuf> = OnceLock::new();
+    LIBRARY.get_or_init(|| {
+        let library = root().join("target/interpose.so");
+        let compiled = Command::new("cc")
+            .args(["-shared", "-fPIC", "-O2", "-o"])
+            .arg(&library)
+            .arg(root().join("tests/programs/interpose.c"))
+            .arg("-ldl")
+            .status();
+        assert!(compiled.is_ok_and(|status| status.success()), "interpose.c can be compiled");
+        library
+    })
+}
+
+impl Breaker {
+    pub fn new(name: &str) -> Breaker {
+        Breaker { shared: root().join("target/program_tests").join(format!("{name}.calls")) }
+    }
+
+    /// Has the command broken at its call of this number.
+    pub fn arm(&self, command: &mut Command, how: How, whose: Whose, at: u32) {
+        fs::write(&self.shared, [0; SHARED_BYTES]).expect("the file can be written");
+        let name = if whose == Whose::Program { "run_listing" } else { "" };
+        command
+            .env("LD_PRELOAD", library())
+            .env("BREAK_FILE", &self.shared)
+            .env("BREAK_AT", at.to_string())
+            .env("BREAK_HOW", how.name())
+            .env("BREAK_IN", name);
+    }
+
+    /// The call that was broken, in words; none where the run made fewer.
+    pub fn broken(&self) -> Option<String> {
+        let shared = fs::read(&self.shared).expect("the file is there");
+        let words = shared[WORDS..].split(|byte| *byte == 0).next().unwrap_or_default();
+        (!words.is_empty()).then(|| String::from_utf8_lossy(words).into_owned())
+    }
+}

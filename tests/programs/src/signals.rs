@@ -1,0 +1,86 @@
+//! Signals to the wrapper end the program too.
+
+use crate::expect::{ensure, is_answer, is_error, is_unchanged, Test};
+use crate::folder::{check_listing, Folder};
+use crate::process::{processes, start, until, Running, HUP, INT, KILL, TERM};
+use crate::routines::{counting, endless};
+use std::fs::{File, OpenOptions};
+use std::process::Command;
+use std::thread::sleep;
+use std::time::Duration;
+use trials::runs::Call;
+
+const SIGNALS: [i32; 3] = [TERM, INT, HUP];
+/// Time for a program that goes on to be seen.
+const A_WHILE: Duration = Duration::from_millis(100);
+
+pub fn tests() -> Vec<Test> {
+    vec![
+        ("signals while a routine runs", || SIGNALS.iter().try_for_each(|signal| while_running(*signal, false))),
+        ("a signal to the wrapper and the program", || while_running(INT, true)),
+        ("signals while the listing is awaited", || SIGNALS.iter().try_for_each(|signal| while_reading(*signal))),
+        ("signals while a listing to check is awaited", || SIGNALS.iter().try_for_each(|s| while_checking(*s))),
+    ]
+}
+
+/// Ends what runs by the signal: status 2 with a message, and no program goes on.
+fn is_ended(running: Running, signal: i32, to_all: bool, program: &str, argument: &str) -> Result<(), String> {
+    if !until(|| !processes(program, argument).is_empty()) {
+        running.signal_group(KILL);
+        return Err("the program was not started".to_string());
+    }
+    if to_all {
+        running.signal_group(signal);
+    } else {
+        running.signal(signal);
+    }
+    let said = running.finish();
+    is_error(&said, "").map_err(|why| format!("signal {signal}: {why}"))?;
+    ensure(processes(program, argument).is_empty(), || format!("signal {signal}: the program goes on"))
+}
+
+/// The files are as they were, and the next call goes on from them.
+fn is_whole(folder: &Folder, call: &Call) -> Result<(), String> {
+    sleep(A_WHILE);
+    ensure(folder.holds(&call.state, &call.results), || "a file was changed".to_string())?;
+    let next = Call { budget: 6, ..call.clone() };
+    is_answer(folder, &next, &folder.run(6))?;
+    ensure(folder.has_four_files(), || format!("left {:?}", folder.entries().keys()))
+}
+
+fn while_running(signal: i32, to_all: bool) -> Result<(), String> {
+    let call = endless(u32::MAX);
+    let folder = Folder::with(if to_all { "signals_all" } else { "signals" }, &call);
+    is_ended(folder.start(call.budget), signal, to_all, "run_listing", &folder.path("listing"))?;
+    is_whole(&folder, &call)
+}
+
+/// A pipe that is open, so that a reader of it waits.
+fn open_pipe(folder: &Folder, name: &str) -> File {
+    let made = Command::new("mkfifo").arg(folder.at(name)).status();
+    assert!(made.is_ok_and(|status| status.success()), "a pipe can be made");
+    OpenOptions::new().read(true).write(true).open(folder.at(name)).expect("the pipe can be opened")
+}
+
+fn while_reading(signal: i32) -> Result<(), String> {
+    let call = counting(2);
+    let folder = Folder::with("signals_reading", &call);
+    let pipes = Folder::new("signals_pipe");
+    let pipe = open_pipe(&pipes, "pipe");
+    let mut given = folder.arguments("6");
+    given[0] = pipes.path("pipe");
+    let running = start(crate::folder::run_listing().args(&given));
+    is_ended(running, signal, false, "run_listing", &given[0])?;
+    drop(pipe);
+    is_whole(&folder, &call)
+}
+
+fn while_checking(signal: i32) -> Result<(), String> {
+    let folder = Folder::new("signals_checking");
+    let pipe = open_pipe(&folder, "pipe");
+    let before = folder.entries();
+    let running = start(check_listing().arg(folder.at("pipe")));
+    is_ended(running, signal, false, "check_listing", &folder.path("pipe"))?;
+    drop(pipe);
+    is_unchanged(&folder, &before)
+}
