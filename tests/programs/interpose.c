@@ -7,6 +7,7 @@
                after   the process group is killed right after the call
                part    the call is a write: it writes half its bytes, then the group is killed; only writes are counted
                alone   the process that makes the call is killed before it, and no other
+               stop    the process that makes the call is stopped right after it, and no other
                fail    the call fails with EIO
                fails   this call and all that follow fail with EIO
    BREAK_IN    only calls of processes of this name count; empty: those of all
@@ -28,12 +29,14 @@
 #include <unistd.h>
 
 struct shared {
-    uint32_t calls; /* made so far */
-    int32_t group;  /* of the processes, 0 until the first of them is there */
-    char broken[1016]; /* the call that was broken, in words */
+    uint32_t calls;    /* made so far */
+    int32_t group;     /* of the processes, 0 until the first of them is there */
+    uint32_t used;     /* bytes of the log */
+    uint32_t broken;   /* whether a call was broken: the last of the log */
+    char log[1 << 16]; /* a line for each call */
 };
 
-enum action { NOTHING, FAIL, AFTER, PART };
+enum action { NOTHING, FAIL, AFTER, PART, STOP };
 
 static struct shared *shared;
 static uint32_t at;
@@ -83,22 +86,36 @@ static void end_all(void)
         pause();
 }
 
+/* Adds a line to the log, where there is room. */
+static void note(const char *call, const char *path)
+{
+    char line[1024];
+    int n = snprintf(line, sizeof line, "%s: %s of %s\n", program_invocation_short_name, call, path);
+    uint32_t length = n < (int)sizeof line ? (uint32_t)n : sizeof line - 1;
+    uint32_t place = __atomic_fetch_add(&shared->used, length, __ATOMIC_SEQ_CST);
+
+    if (place + length <= sizeof shared->log)
+        memcpy(shared->log + place, line, length);
+}
+
 /* Counts a call, and says what is due at it. */
 static enum action counted(const char *call, const char *path)
 {
     if (shared == NULL || (is_how("part") && strcmp(call, "write") != 0))
         return NOTHING;
     uint32_t now = __atomic_add_fetch(&shared->calls, 1, __ATOMIC_SEQ_CST);
+    if (at == 0 || now <= at)
+        note(call, path);
     if (at != 0 && now > at && is_how("fails"))
         return FAIL;
     if (now != at)
         return NOTHING;
-    snprintf(shared->broken, sizeof shared->broken, "%s: %s of %s", program_invocation_short_name, call, path);
+    shared->broken = 1;
     if (is_how("kill"))
         end_all();
     if (is_how("alone"))
         kill(getpid(), SIGKILL);
-    return is_how("after") ? AFTER : is_how("part") ? PART : FAIL;
+    return is_how("after") ? AFTER : is_how("part") ? PART : is_how("stop") ? STOP : FAIL;
 }
 
 static enum action counted_of(const char *call, int fd)
@@ -122,6 +139,18 @@ static int is_regular(int fd)
     return is;
 }
 
+/* What is due once the call is made. */
+static void afterwards(enum action action)
+{
+    int saved = errno;
+
+    if (action == AFTER || action == PART)
+        end_all();
+    if (action == STOP)
+        kill(getpid(), SIGSTOP);
+    errno = saved;
+}
+
 static int failed(void)
 {
     errno = EIO;
@@ -135,8 +164,7 @@ static int failed(void)
         return failed(); \
     __typeof__(name) *next = (__typeof__(name) *)dlsym(RTLD_NEXT, #name); \
     type answer = next(__VA_ARGS__); \
-    if (action == AFTER) \
-        end_all(); \
+    afterwards(action); \
     return answer
 
 /* Opening */
@@ -195,8 +223,7 @@ ssize_t write(int fd, const void *bytes, size_t n)
     if (action == FAIL)
         return failed();
     ssize_t answer = next(fd, bytes, action == PART ? n / 2 : n);
-    if (action == AFTER || action == PART)
-        end_all();
+    afterwards(action);
     return answer;
 }
 
@@ -208,8 +235,7 @@ ssize_t write(int fd, const void *bytes, size_t n)
         if (action == FAIL) \
             return failed(); \
         ssize_t answer = next(fd, bytes, action == PART ? n / 2 : n, offset); \
-        if (action == AFTER || action == PART) \
-            end_all(); \
+        afterwards(action); \
         return answer; \
     }
 PWRITE(pwrite, off_t)

@@ -1,7 +1,7 @@
 //! Runs broken off at every call that changes a file: the next call puts right what is left, and goes on.
 
 use crate::expect::{ensure, is_plain_answer, Test};
-use crate::folder::{Entries, Folder};
+use crate::folder::{run_listing, Entries, Folder};
 use crate::interpose::{Breaker, How, Whose};
 use crate::process::{said, Said};
 use crate::routines::counting;
@@ -15,12 +15,26 @@ const FEWEST_WRITES: u32 = 2;
 /// Every so many calls the run that puts right is broken off too.
 const SAMPLE: u32 = 3;
 const KILLED: i32 = 128 + 9;
+/// What the program does to files after it has opened them.
+const ORDER: [&str; 10] = [
+    "write results.new",
+    "sync results.new",
+    "sync of_results",
+    "write state.new",
+    "sync state.new",
+    "sync of_state",
+    "rename results.new",
+    "sync of_results",
+    "rename state.new",
+    "sync of_state",
+];
 
 pub fn tests() -> Vec<Test> {
     vec![
         ("everything killed before each call", || each_call("kill_all", How::Kill, Whose::Everyone)),
         ("everything killed after each call", || each_call("after_all", How::After, Whose::Everyone)),
         ("broken off, and broken off again while put right", broken_twice),
+        ("files are synced before they are renamed", order),
         ("everything killed before each call of the program", || each_call("kill", How::Kill, Whose::Program)),
         ("everything killed after each call of the program", || each_call("after", How::After, Whose::Program)),
         ("everything killed amid each write", || each_call("part", How::Part, Whose::Everyone)),
@@ -64,31 +78,25 @@ fn each_call(name: &str, how: How, whose: Whose) -> Result<(), String> {
             ensure(at > fewest, || format!("only {} calls were seen", at - 1))?;
             return is_plain_answer(&trial.folder, &trial.call, &said).map(drop);
         };
-        is_right(&trial, how, &said).map_err(|why| format!("at {at}, {call}: {why}"))?;
+        is_right(&trial, how, 0, &said).map_err(|why| format!("at {at}, {call}: {why}"))?;
     }
     Ok(())
 }
 
-/// After a break: both files are of one run, before or after, and the next call goes on from there.
-fn is_right(trial: &Trial, how: How, said: &Said) -> Result<(), String> {
+/// After a break: both files are of one run, those of this stage or of the next, and the next call goes on from there.
+fn is_right(trial: &Trial, how: How, stage: usize, said: &Said) -> Result<(), String> {
     if how.ends_all() {
         ensure(said.status == KILLED, || format!("it was to be killed: {said:?}"))?;
     } else if said.status == 0 {
-        return is_plain_answer_but_for_a_warning(trial, said);
+        ensure(!said.error.is_empty(), || "a call failed and nothing was said".to_string())?;
+        return trial.stages.is_made(&trial.folder, stage, said);
     } else {
         let told = said.status == 2 && said.output.is_empty() && !said.error.is_empty();
         ensure(told, || format!("{said:?} where an error is due"))?;
     }
     let held = trial.stages.held(&trial.folder)?;
-    ensure(held <= 1, || format!("{held} runs were made"))?;
+    ensure(held == stage || held == stage + 1, || format!("stage {held} after {stage}"))?;
     trial.stages.goes_on(&trial.folder, held)
-}
-
-/// A run that goes on though a call failed says so and is made whole.
-fn is_plain_answer_but_for_a_warning(trial: &Trial, said: &Said) -> Result<(), String> {
-    ensure(!said.error.is_empty(), || "a call failed and nothing was said".to_string())?;
-    let silent = Said { error: String::new(), ..said.clone() };
-    is_plain_answer(&trial.folder, &trial.call, &silent).map(drop)
 }
 
 /// What runs that were broken off left: one of each kind, told apart by the names and which files are empty.
@@ -111,22 +119,49 @@ fn kinds_left(trial: &Trial) -> Vec<Entries> {
     kinds.into_values().collect()
 }
 
-/// A run is broken off, the call that puts right is broken off too, and a third one goes on.
+/// A run is broken off, the call that puts right is broken too, and a third one goes on.
 fn broken_twice() -> Result<(), String> {
     let trial = Trial::new("twice");
     let kinds = kinds_left(&trial);
     ensure(kinds.len() >= 3, || format!("only {} kinds of what is left were seen", kinds.len()))?;
-    for (first, left) in (1..).zip(&kinds) {
-        for at in (0..).map(|n| 1 + first % SAMPLE + n * SAMPLE) {
-            restore(&trial.folder, left);
-            let before = trial.stages.held(&trial.folder)?;
-            let (_, broken) = trial.run(How::Kill, Whose::Everyone, at);
-            let Some(call) = broken else { break };
-            let place = |why| format!("left {:?}, then at {at}, {call}: {why}", left.keys());
-            let held = trial.stages.held(&trial.folder).map_err(place)?;
-            ensure(held == before || held == before + 1, || place(format!("stage {held} after {before}")))?;
-            trial.stages.goes_on(&trial.folder, held).map_err(place)?;
+    for (first, left) in (0..).zip(&kinds) {
+        for (how, whose) in [(How::Kill, Whose::Everyone), (How::Fail, Whose::Program)] {
+            let place = |why| format!("left {:?}, then {why}", left.keys());
+            broken_again(&trial, left, how, whose, first % SAMPLE).map_err(place)?;
         }
     }
     Ok(())
+}
+
+/// Breaks the run that puts this right at every third of its calls.
+fn broken_again(trial: &Trial, left: &Entries, how: How, whose: Whose, first: u32) -> Result<(), String> {
+    for at in (0..).map(|n| 1 + first + n * SAMPLE) {
+        restore(&trial.folder, left);
+        let stage = trial.stages.held(&trial.folder)?;
+        let (said, broken) = trial.run(how, whose, at);
+        let Some(call) = broken else { return Ok(()) };
+        is_right(trial, how, stage, &said).map_err(|why| format!("at {at}, {call}: {why}"))?;
+    }
+    Ok(())
+}
+
+/// What a run writes is on the disk before it is renamed: each file is synced, then its folder, in the order of the
+/// table of what is left. Results and state are in two folders, so that each sync is seen to be of the right one.
+fn order() -> Result<(), String> {
+    let call = counting(2);
+    let (folder, results, state) =
+        (Folder::new("order"), Folder::new("order/of_results"), Folder::new("order/of_state"));
+    let breaker = Breaker::new("order");
+    [&folder, &results, &state].iter().for_each(|folder| folder.write(&call));
+    let mut command = run_listing();
+    command.args([folder.path("listing"), folder.path("trays"), results.path("results"), state.path("state")]);
+    breaker.arm(command.arg(call.budget.to_string()), How::Kill, Whose::Program, 0);
+    let said = said(&mut command);
+    ensure(said.status == 0, || format!("{said:?}"))?;
+    let last = |call: &String| call.rsplit('/').next().unwrap_or_default().to_string();
+    let word = |call: &String| call.split(' ').nth(1).unwrap_or_default().to_string();
+    let calls = breaker.calls().iter().map(|call| format!("{} {}", word(call), last(call))).collect::<Vec<_>>();
+    let mut seen: Vec<&str> = calls.iter().map(String::as_str).filter(|call| !call.starts_with("open")).collect();
+    seen.dedup();
+    ensure(seen == ORDER, || format!("{seen:?}"))
 }

@@ -13,6 +13,7 @@ pub enum How {
     After,
     Part,
     Alone,
+    Stop,
     Fail,
     Fails,
 }
@@ -29,9 +30,10 @@ pub struct Breaker {
     shared: PathBuf,
 }
 
-const SHARED_BYTES: usize = 1024;
-/// Where the words for the broken call begin.
-const WORDS: usize = 8;
+/// Where the shared file says whether a call was broken, where its log begins, and its size.
+const BROKEN: usize = 12;
+const LOG: usize = 16;
+const SHARED_BYTES: usize = LOG + (1 << 16);
 
 impl How {
     fn name(self) -> &'static str {
@@ -40,6 +42,7 @@ impl How {
             How::After => "after",
             How::Part => "part",
             How::Alone => "alone",
+            How::Stop => "stop",
             How::Fail => "fail",
             How::Fails => "fails",
         }
@@ -84,10 +87,16 @@ impl Breaker {
             .env("BREAK_IN", name);
     }
 
+    /// The calls up to the one that was broken, in words; all of them where the run made fewer.
+    pub fn calls(&self) -> Vec<String> {
+        let shared = fs::read(&self.shared).expect("the file is there");
+        let log = shared[LOG..].split(|byte| *byte == 0).next().unwrap_or_default();
+        String::from_utf8_lossy(log).lines().map(str::to_string).collect()
+    }
+
     /// The call that was broken, in words; none where the run made fewer.
     pub fn broken(&self) -> Option<String> {
         let shared = fs::read(&self.shared).expect("the file is there");
-        let words = shared[WORDS..].split(|byte| *byte == 0).next().unwrap_or_default();
-        (!words.is_empty()).then(|| String::from_utf8_lossy(words).into_owned())
+        (shared[BROKEN] != 0).then(|| self.calls().pop().unwrap_or_default())
     }
 }

@@ -8,6 +8,7 @@ mod callers;
 mod example;
 mod expect;
 mod folder;
+mod interleaved;
 mod interpose;
 mod kinds;
 mod left_over;
@@ -66,6 +67,7 @@ fn all() -> Vec<Test> {
     let groups = [
         broken_off::tests(),
         callers::tests(),
+        interleaved::tests(),
         moments::tests(),
         runs::tests(),
         twice::tests(),

@@ -102,6 +102,19 @@ impl Running {
         Said { output: output.unwrap_or_else(late), error: error.unwrap_or_else(late), status }
     }
 
+    /// Waits until one of the processes is stopped or the program is at its end, and answers whether one is stopped.
+    pub fn comes_to_stop(&mut self) -> bool {
+        let group = self.id();
+        let start = Instant::now();
+        while start.elapsed() < LONGEST && matches!(self.child.try_wait(), Ok(None)) {
+            if is_stopped(group) {
+                return true;
+            }
+            thread::sleep(Duration::from_millis(2));
+        }
+        false
+    }
+
     /// Waits for the program alone, though something that it started may go on.
     pub fn wait(&mut self) -> i32 {
         self.child.wait().map_or(-1, number_of)
@@ -114,11 +127,24 @@ pub fn send(process: i32, signal: i32) {
     unsafe { kill(process, signal) };
 }
 
+fn all_processes() -> impl Iterator<Item = i32> {
+    let entries = fs::read_dir("/proc").into_iter().flatten().flatten();
+    entries.filter_map(|entry| entry.file_name().to_string_lossy().parse().ok())
+}
+
 /// The processes of this name that have this text among their arguments.
 pub fn processes(name: &str, argument: &str) -> Vec<i32> {
-    let entries = fs::read_dir("/proc").into_iter().flatten().flatten();
-    let numbers = entries.filter_map(|entry| entry.file_name().to_string_lossy().parse().ok());
-    numbers.filter(|number| is_process(*number, name, argument)).collect()
+    all_processes().filter(|number| is_process(*number, name, argument)).collect()
+}
+
+/// Whether a process of the group is stopped.
+fn is_stopped(group: i32) -> bool {
+    let group = group.to_string();
+    all_processes().any(|number| {
+        let text = fs::read_to_string(format!("/proc/{number}/stat")).unwrap_or_default();
+        let words: Vec<&str> = text.rsplit(") ").next().unwrap_or_default().split(' ').collect();
+        words.first() == Some(&"T") && words.get(2) == Some(&group.as_str())
+    })
 }
 
 fn is_process(number: i32, name: &str, argument: &str) -> bool {

@@ -2,6 +2,7 @@
 
 use crate::expect::{ensure, is_answer};
 use crate::folder::{state_text, Entries, Folder};
+use crate::process::Said;
 use crate::routines::next;
 use std::fs;
 use trials::runs::Call;
@@ -49,19 +50,23 @@ impl Stages {
         Ok(at)
     }
 
+    /// Whether a run from this stage was made and answered.
+    pub fn is_made(&self, folder: &Folder, stage: usize, said: &Said) -> Result<(), String> {
+        is_answer(folder, &self.calls[stage], said)?;
+        modes_are_kept(folder)?;
+        ensure(folder.has_four_files(), || format!("left {:?}", folder.entries().keys()))
+    }
+
     /// Makes the next call over what was left: it says what it did with each new file, goes on from the stage that was
     /// held, and leaves nothing.
     pub fn goes_on(&self, folder: &Folder, held: usize) -> Result<(), String> {
         let left: Vec<String> = folder.entries().into_keys().filter(|name| name.ends_with(".new")).collect();
-        let call = &self.calls[held];
-        let said = folder.run(call.budget);
-        is_answer(folder, call, &said).map_err(|why| format!("the next call, over {left:?}: {why}"))?;
+        let said = folder.run(self.calls[held].budget);
+        self.is_made(folder, held, &said).map_err(|why| format!("the next call, over {left:?}: {why}"))?;
         let told = left.iter().all(|name| said.error.contains(name.as_str()));
         ensure(told && left.is_empty() == said.error.is_empty(), || {
             format!("the next call said {:?} of {left:?}", said.error)
-        })?;
-        modes_are_kept(folder)?;
-        ensure(folder.has_four_files(), || format!("the next call left {:?}", folder.entries().keys()))
+        })
     }
 }
 
