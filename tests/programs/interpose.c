@@ -10,6 +10,8 @@
                stop    the process that makes the call is stopped right after it, and no other
                fail    the call fails with EIO
                fails   this call and all that follow fail with EIO
+               slow    nothing is broken, but each time that bash has started a process it waits a moment, in which the process may
+                       end: before the BREAK_AT-th time from there that it blocks signals
    BREAK_IN    only calls of processes of this name count; empty: those of all
 
    What bash and the C library write through a stream is seen where the stream is flushed. */
@@ -26,6 +28,7 @@
 #include <string.h>
 #include <sys/mman.h>
 #include <sys/stat.h>
+#include <time.h>
 #include <unistd.h>
 
 struct shared {
@@ -101,7 +104,7 @@ static void note(const char *call, const char *path)
 /* Counts a call, and says what is due at it. */
 static enum action counted(const char *call, const char *path)
 {
-    if (shared == NULL || (is_how("part") && strcmp(call, "write") != 0))
+    if (shared == NULL || is_how("slow") || (is_how("part") && strcmp(call, "write") != 0))
         return NOTHING;
     uint32_t now = __atomic_add_fetch(&shared->calls, 1, __ATOMIC_SEQ_CST);
     if (at == 0 || now <= at)
@@ -366,4 +369,31 @@ int fchown(int fd, uid_t owner, gid_t group)
 int fchownat(int folder, const char *path, uid_t owner, gid_t group, int flags)
 {
     PASSED_ON(int, fchownat, counted("chown", path), folder, path, owner, group, flags);
+}
+
+/* Processes */
+
+#define WAIT_NS 50000000
+
+static uint32_t blocks; /* times until bash waits; 0: it does not */
+
+pid_t fork(void)
+{
+    pid_t (*next)(void) = (pid_t (*)(void))dlsym(RTLD_NEXT, "fork");
+    pid_t process = next();
+
+    blocks = shared != NULL && is_how("slow") && process > 0 ? at : 0;
+    return process;
+}
+
+/* Bash blocks the signal that a process has ended while it writes down what it knows of its processes. */
+int sigprocmask(int change, const sigset_t *set, sigset_t *old)
+{
+    struct timespec left = {0, WAIT_NS};
+    int (*next)(int, const sigset_t *, sigset_t *) = dlsym(RTLD_NEXT, "sigprocmask");
+
+    if (change == SIG_BLOCK && blocks > 0 && --blocks == 0)
+        while (nanosleep(&left, &left) != 0 && errno == EINTR)
+            ;
+    return next(change, set, old);
 }

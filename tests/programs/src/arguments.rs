@@ -1,13 +1,14 @@
 //! Bad arguments, and files that are no state: an error that changes nothing.
 
-use crate::expect::{is_error, is_unchanged, Test};
+use crate::expect::{is_error, is_plain_answer, is_unchanged, Test};
 use crate::folder::{state_text, Folder, FILES};
-use crate::routines::viability;
+use crate::routines::{counting, viability};
 
 pub fn tests() -> Vec<Test> {
     vec![
         ("a wrong number of arguments", wrong_number),
         ("budgets that are none", bad_budgets),
+        ("a budget with zeros before it is decimal", zeros),
         ("files that are missing, folders or without a name", bad_files),
         ("states that are none", bad_states),
     ]
@@ -30,6 +31,12 @@ fn bad_budgets() -> Result<(), String> {
     let folder = Folder::with("budgets", &viability(10));
     let budgets = ["", "x", "-1", "+1", "1.5", " 1", "1 ", "0x1", "1e3", "4294967296", "99999999999999999999"];
     budgets.iter().try_for_each(|budget| is_refused(&folder, &folder.arguments(budget), "budget"))
+}
+
+fn zeros() -> Result<(), String> {
+    let call = counting(3);
+    let folder = Folder::with("zeros", &call);
+    is_plain_answer(&folder, &call, &folder.run_with(&folder.arguments("009"))).map(drop)
 }
 
 fn bad_files() -> Result<(), String> {

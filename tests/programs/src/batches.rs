@@ -62,7 +62,7 @@ fn twice() -> Result<(), String> {
     }
     for _ in 0..2 {
         let said = said(Command::new("bash").arg("-c").arg(&command).current_dir(folder.place()));
-        ensure(said.status == 0 && said.error.is_empty(), || format!("{said:?}"))?;
+        ensure(said.status == 0 && said.error.is_empty(), || format!("{} {}", said.error, said.output))?;
         ensure(said.output.lines().count() == calls.len(), || format!("{} lines", said.output.lines().count()))?;
         for (batch, call) in (0..).zip(&mut calls) {
             is_answered(&folder, &name(batch), call, &said)?;

@@ -16,6 +16,7 @@ pub enum How {
     Stop,
     Fail,
     Fails,
+    Slow,
 }
 
 /// The processes whose calls are counted.
@@ -23,6 +24,7 @@ pub enum How {
 pub enum Whose {
     Everyone,
     Program,
+    Wrapper,
 }
 
 /// The file that the processes of a run share with the test.
@@ -45,6 +47,7 @@ impl How {
             How::Stop => "stop",
             How::Fail => "fail",
             How::Fails => "fails",
+            How::Slow => "slow",
         }
     }
 
@@ -78,7 +81,11 @@ impl Breaker {
     /// Has the command broken at its call of this number.
     pub fn arm(&self, command: &mut Command, how: How, whose: Whose, at: u32) {
         fs::write(&self.shared, [0; SHARED_BYTES]).expect("the file can be written");
-        let name = if whose == Whose::Program { "run_listing" } else { "" };
+        let name = match whose {
+            Whose::Everyone => "",
+            Whose::Program => "run_listing",
+            Whose::Wrapper => "bash",
+        };
         command
             .env("LD_PRELOAD", library())
             .env("BREAK_FILE", &self.shared)

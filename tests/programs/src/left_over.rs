@@ -17,7 +17,6 @@ pub fn tests() -> Vec<Test> {
         ("a call over another pair leaves the way to put right", by_another_pair),
         ("the program without the wrapper", without_wrapper),
         ("the program without the wrapper stops at a new file", stops_at_new_file),
-        ("the program puts right what is left", program_puts_right),
         ("a run broken off by a limit on files", limited),
     ]
 }
@@ -76,23 +75,34 @@ fn without_lock() -> Result<(), String> {
     LEFT.iter().try_for_each(|new| is_left_alone(&left("left_unlocked", new).0, new))
 }
 
+/// The message names a new file and the pair that it belongs to, and nothing is changed.
+fn is_left_to(folder: &Folder, new: &str, results: &str, state: &str) -> Result<(), String> {
+    let before = folder.entries();
+    let said = folder.run(3);
+    is_error(&said, new)?;
+    is_error(&said, &folder.path(results))?;
+    is_error(&said, &folder.path(state))?;
+    is_unchanged(folder, &before)
+}
+
 fn of_another_pair() -> Result<(), String> {
     for new in LEFT {
         for (results, state) in [("results", "other"), ("other", "state"), ("state", "results")] {
             let (folder, ..) = left("left_others", new);
             lock(&folder, &["results", "state"], results, state);
-            is_left_alone(&folder, new).map_err(|why| format!("{new:?} of {results} and {state}: {why}"))?;
+            let place = |why| format!("{new:?} of {results} and {state}: {why}");
+            is_left_to(&folder, new[0], results, state).map_err(place)?;
         }
     }
     Ok(())
 }
 
 fn of_both() -> Result<(), String> {
-    for mine in ["results", "state"] {
+    for (mine, new) in [("results", NEW[1]), ("state", NEW[0])] {
         let (folder, ..) = left("left_both", &NEW);
         lock(&folder, &["results", "state"], "results", "other");
         lock(&folder, &[mine], "results", "state");
-        is_left_alone(&folder, &NEW).map_err(|why| format!("{mine} is ours: {why}"))?;
+        is_left_to(&folder, new, "results", "other").map_err(|why| format!("{mine} is ours: {why}"))?;
     }
     Ok(())
 }
@@ -136,22 +146,6 @@ fn stops_at_new_file() -> Result<(), String> {
         let named = new.iter().any(|name| said.error.contains(name));
         ensure(said.output.is_empty() && named, || format!("{new:?}: {said:?}"))?;
         is_unchanged(&folder, &before)?;
-    }
-    Ok(())
-}
-
-fn program_puts_right() -> Result<(), String> {
-    for new in LEFT {
-        let (folder, call, after) = left("bare_right", new);
-        let said = bare(&folder.arguments("3")[2..4]);
-        ensure(new.iter().all(|name| said.error.contains(name)), || format!("{new:?}: {said:?}"))?;
-        let counts = !new.contains(&NEW[0]);
-        let held = if counts {
-            folder.holds(&after.run.state, &after.results)
-        } else {
-            folder.holds(&call.state, &call.results)
-        };
-        ensure(held && folder.has_four_files(), || format!("{new:?}: there are {:?}", folder.entries().keys()))?;
     }
     Ok(())
 }

@@ -4,6 +4,7 @@
 mod arguments;
 mod batches;
 mod broken_off;
+mod building;
 mod callers;
 mod example;
 mod expect;
@@ -19,6 +20,7 @@ mod process;
 mod routines;
 mod runs;
 mod signals;
+mod slow;
 mod stages;
 mod statuses;
 mod twice;
@@ -66,6 +68,7 @@ fn build() -> Result<(), String> {
 fn all() -> Vec<Test> {
     let groups = [
         broken_off::tests(),
+        slow::tests(),
         callers::tests(),
         interleaved::tests(),
         moments::tests(),
@@ -80,6 +83,7 @@ fn all() -> Vec<Test> {
         statuses::tests(),
         output::tests(),
         paths::tests(),
+        building::tests(),
         example::tests(),
     ];
     groups.into_iter().flatten().collect()
