@@ -1,21 +1,18 @@
 //! Two callers over the same files: one of them runs, the other is turned away.
 
 use crate::expect::{ensure, is_answer, is_error, is_plain_answer, is_unchanged, line, Test};
-use crate::folder::{Folder, FILES};
-use crate::process::{processes, said, send, start, until, Running, Said, CONT, KILL, STOP};
+use crate::folder::{run_listing, Folder, FILES};
+use crate::interpose::{Breaker, How, Whose};
+use crate::process::{processes, said, send, start, until, Running, Said, CONT, KILL};
 use crate::routines::{counting, endless, ROUND};
 use std::fs;
 use std::os::unix::fs::symlink;
-use std::path::Path;
 use std::thread;
 use std::time::Duration;
 use trials::runs::Call;
 
 const TURNED_AWAY: &str = "another call is running";
 const TRIES: usize = 5_000;
-/// Steps that take a moment, and steps that do not end within a test.
-const A_MOMENT: u32 = 200_000_000;
-const FOREVER: u32 = u32::MAX;
 
 pub fn tests() -> Vec<Test> {
     vec![
@@ -55,14 +52,15 @@ fn is_turned_away(said: &Said) -> bool {
 fn call_again(given: &[String], calls: usize, answer: &str) -> Result<usize, String> {
     let mut turned_away = 0;
     for _ in 0..calls {
-        let mut said = said(crate::folder::run_listing().args(given));
-        while is_turned_away(&said) {
+        let mut answered = said(run_listing().args(given));
+        while is_turned_away(&answered) {
             turned_away += 1;
             ensure(turned_away < TRIES, || "it was turned away all the time".to_string())?;
             thread::sleep(Duration::from_millis(5 + turned_away as u64 % 23));
-            said = crate::process::said(crate::folder::run_listing().args(given));
+            answered = said(run_listing().args(given));
         }
-        ensure(said.status == 0 && said.output == answer && said.error.is_empty(), || format!("{said:?}"))?;
+        let plain = answered.status == 0 && answered.output == answer && answered.error.is_empty();
+        ensure(plain, || format!("{answered:?}"))?;
     }
     Ok(turned_away)
 }
@@ -84,9 +82,25 @@ fn two_callers(name: &str, calls: usize, other: fn(&Folder) -> Vec<String>) -> R
     ensure(folder.has_four_files(), || format!("left {:?}", folder.entries().keys()))
 }
 
-/// A call that runs, and its program.
-fn started(folder: &Folder, budget: u32) -> Result<(Running, i32), String> {
-    let running = folder.start(budget);
+/// A call over these files that stops once it has made its call of this number that changes a file, if it comes to it.
+pub fn stopping(given: &[String], breaker: &Breaker, whose: Whose, at: u32) -> (Running, bool) {
+    let mut command = run_listing();
+    breaker.arm(command.args(given), How::Stop, whose, at);
+    let mut running = start(&mut command);
+    let stopped = running.comes_to_stop();
+    (running, stopped)
+}
+
+/// A call whose program is stopped before it has read anything.
+fn stopped(folder: &Folder, name: &str) -> Result<Running, String> {
+    let (running, stopped) = stopping(&folder.arguments("3"), &Breaker::new(name), Whose::Program, 1);
+    ensure(stopped, || "the program did not come to its first call".to_string())?;
+    Ok(running)
+}
+
+/// A call that runs without end, and its program.
+fn started(folder: &Folder) -> Result<(Running, i32), String> {
+    let running = folder.start(endless().budget);
     let argument = folder.path("listing");
     if until(|| !processes("run_listing", &argument).is_empty()) {
         return Ok((running, processes("run_listing", &argument)[0]));
@@ -96,14 +110,13 @@ fn started(folder: &Folder, budget: u32) -> Result<(Running, i32), String> {
 }
 
 fn while_stopped() -> Result<(), String> {
-    let call = endless(A_MOMENT);
+    let call = counting(1);
     let folder = Folder::with("stopped", &call);
-    let (first, program) = started(&folder, call.budget)?;
-    send(program, STOP);
+    let first = stopped(&folder, "stopped")?;
     let before = folder.entries();
-    let second = folder.run(1);
+    let second = folder.run(ROUND);
     let kept = is_unchanged(&folder, &before);
-    send(program, CONT);
+    first.signal_group(CONT);
     let first = first.finish();
     is_error(&second, TURNED_AWAY)?;
     kept?;
@@ -112,13 +125,11 @@ fn while_stopped() -> Result<(), String> {
 
 /// The second call has the results or the state of the first, and the other file is its own.
 fn over_one_file() -> Result<(), String> {
-    let call = endless(FOREVER);
-    let folder = Folder::with("one_file", &call);
-    let (first, program) = started(&folder, call.budget)?;
-    send(program, STOP);
+    let folder = Folder::with("one_file", &counting(1));
+    let first = stopped(&folder, "one_file")?;
     let mut outcome = Ok(());
     for at in [2, 3] {
-        let mut given = folder.arguments("1");
+        let mut given = folder.arguments("3");
         fs::copy(&given[at], folder.at("own")).map_err(|error| error.to_string())?;
         given[at] = folder.path("own");
         let before = folder.entries();
@@ -130,50 +141,49 @@ fn over_one_file() -> Result<(), String> {
     outcome
 }
 
+/// The next call after one that was killed.
+fn goes_on(folder: &Folder) -> Result<(), String> {
+    let call = counting(1);
+    is_answer(folder, &call, &folder.run(call.budget))?;
+    ensure(folder.has_four_files(), || format!("left {:?}", folder.entries().keys()))
+}
+
 fn killed() -> Result<(), String> {
-    let call = endless(FOREVER);
-    let folder = Folder::with("killed", &call);
-    let (first, _) = started(&folder, call.budget)?;
+    let folder = Folder::with("killed", &endless());
+    let (first, _) = started(&folder)?;
     first.signal_group(KILL);
     first.finish();
-    let next = Call { budget: 5, ..call };
-    is_answer(&folder, &next, &folder.run(5))?;
-    ensure(folder.has_four_files(), || format!("left {:?}", folder.entries().keys()))
+    goes_on(&folder)
 }
 
 /// The program inherits what keeps other calls away.
 fn wrapper_killed() -> Result<(), String> {
-    let call = endless(FOREVER);
-    let folder = Folder::with("wrapper_killed", &call);
-    let (mut first, program) = started(&folder, call.budget)?;
+    let folder = Folder::with("wrapper_killed", &endless());
+    let (mut first, program) = started(&folder)?;
     first.signal(KILL);
     first.wait();
-    let second = folder.run(1);
+    let second = folder.run(ROUND);
     send(program, KILL);
     first.finish();
     is_error(&second, TURNED_AWAY)?;
-    let next = Call { budget: 5, ..call };
-    is_answer(&folder, &next, &folder.run(5))?;
-    ensure(folder.has_four_files(), || format!("left {:?}", folder.entries().keys()))
+    goes_on(&folder)
 }
 
 /// A call over other files of the same folder, with the same listing and trays, is answered while one runs.
 fn other_files() -> Result<(), String> {
-    let (call, mine) = (endless(FOREVER), counting(1));
+    let call = counting(1);
     let folder = Folder::with("others", &call);
-    let own = Folder::with("others/own", &mine);
-    let (first, program) = started(&folder, call.budget)?;
-    send(program, STOP);
-    for name in FILES {
-        fs::copy(own.at(name), folder.at(Path::new("own_").with_file_name(format!("own_{name}")))).expect("a copy");
+    let mut given = folder.arguments("3");
+    for at in [2, 3] {
+        let own = folder.path(&format!("own_{}", FILES[at]));
+        fs::copy(&given[at], &own).map_err(|error| error.to_string())?;
+        given[at] = own;
     }
-    let mut given: Vec<String> = FILES.iter().map(|name| folder.path(&format!("own_{name}"))).collect();
-    given[1] = folder.path("trays");
-    given.push(ROUND.to_string());
-    let second = start(crate::folder::run_listing().args(&given)).finish();
+    let first = stopped(&folder, "others")?;
+    let second = folder.run_with(&given);
     first.signal_group(KILL);
     first.finish();
-    let after = mine.by_reference();
+    let after = call.by_reference();
     ensure(second.status == 0 && second.output == line(&after.run), || format!("{second:?}"))?;
     ensure(folder.get("own_results") == after.results, || "its results are others".to_string())
 }

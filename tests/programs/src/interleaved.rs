@@ -1,9 +1,10 @@
 //! Callers over the same results, one of them stopped after each of its calls that change a file while others call.
 
+use crate::callers::stopping;
 use crate::expect::{ensure, is_error, line, Test};
-use crate::folder::{run_listing, state_text, Folder};
-use crate::interpose::{Breaker, How, Whose};
-use crate::process::{start, Running, Said, CONT};
+use crate::folder::{state_text, Folder};
+use crate::interpose::{Breaker, Whose};
+use crate::process::{Running, Said, CONT};
 use crate::routines::{counting, ROUND};
 use trials::runs::Call;
 
@@ -11,15 +12,6 @@ const FEWEST_CALLS: u32 = 8;
 
 pub fn tests() -> Vec<Test> {
     vec![("a caller stopped after each of its calls while two others call", each_call)]
-}
-
-/// A call that stops once it has made its call of this number, if it comes to it.
-fn stopping(given: &[String], breaker: &Breaker, whose: Whose, at: u32) -> (Running, bool) {
-    let mut command = run_listing();
-    breaker.arm(command.args(given), How::Stop, whose, at);
-    let mut running = start(&mut command);
-    let stopped = running.comes_to_stop();
-    (running, stopped)
 }
 
 /// Stops the caller after its first call that changes a file, after its second, and so on until it goes through.

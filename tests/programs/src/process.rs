@@ -13,7 +13,6 @@ pub const TERM: i32 = 15;
 pub const INT: i32 = 2;
 pub const HUP: i32 = 1;
 pub const KILL: i32 = 9;
-pub const STOP: i32 = 19;
 pub const CONT: i32 = 18;
 
 /// A program that takes longer hangs.

@@ -7,12 +7,14 @@ use crate::routines::{counting, endless};
 use std::fs::{File, OpenOptions};
 use std::process::Command;
 use std::thread::sleep;
-use std::time::Duration;
+use std::time::{Duration, Instant};
 use trials::runs::Call;
 
 const SIGNALS: [i32; 3] = [TERM, INT, HUP];
 /// Time for a program that goes on to be seen.
 const A_WHILE: Duration = Duration::from_millis(100);
+/// Time in which a signal is heard.
+const AT_ONCE: Duration = Duration::from_secs(5);
 
 pub fn tests() -> Vec<Test> {
     vec![
@@ -34,8 +36,10 @@ fn is_ended(running: Running, signal: i32, to_all: bool, program: &str, argument
     } else {
         running.signal(signal);
     }
+    let sent = Instant::now();
     let said = running.finish();
     is_error(&said, "").map_err(|why| format!("signal {signal}: {why}"))?;
+    ensure(sent.elapsed() < AT_ONCE, || format!("signal {signal}: it ended after {:?}", sent.elapsed()))?;
     ensure(processes(program, argument).is_empty(), || format!("signal {signal}: the program goes on"))
 }
 
@@ -49,7 +53,7 @@ fn is_whole(folder: &Folder, call: &Call) -> Result<(), String> {
 }
 
 fn while_running(signal: i32, to_all: bool) -> Result<(), String> {
-    let call = endless(u32::MAX);
+    let call = endless();
     let folder = Folder::with(if to_all { "signals_all" } else { "signals" }, &call);
     is_ended(folder.start(call.budget), signal, to_all, "run_listing", &folder.path("listing"))?;
     is_whole(&folder, &call)
