@@ -32,16 +32,24 @@ fn hard_linked(folder: &Folder, name: &str) -> String {
     folder.path("alias")
 }
 
-/// Gives each two of the arguments the same file. The one that a wrong run would read or change unseen is replaced.
+/// Each two of the arguments: the one that keeps its file, and the one that is given the same. The second is the one that
+/// a wrong run would read or change unseen.
+const PAIRS: [(&str, &str); 6] = [
+    ("listing", "trays"),
+    ("listing", "results"),
+    ("trays", "results"),
+    ("state", "listing"),
+    ("state", "trays"),
+    ("state", "results"),
+];
+
 fn each_pair(name: &str, alias: fn(&Folder, &str) -> String) -> Result<(), String> {
-    for second in 1..FILES.len() {
-        for first in 0..second {
-            let folder = Folder::with(&format!("twice_{name}"), &counting(1));
-            let (kept, replaced) = if FILES[second] == "state" { (second, first) } else { (first, second) };
-            let mut given = folder.arguments("3");
-            given[replaced] = alias(&folder, FILES[kept]);
-            is_refused(&folder, &given).map_err(|why| format!("{} and {}: {why}", FILES[first], FILES[second]))?;
-        }
+    for (kept, replaced) in PAIRS {
+        let folder = Folder::with(&format!("twice_{name}"), &counting(1));
+        let alias = alias(&folder, kept);
+        let names = FILES.iter().map(|file| if *file == replaced { alias.clone() } else { folder.path(file) });
+        let given: Vec<String> = names.chain(["3".to_string()]).collect();
+        is_refused(&folder, &given).map_err(|why| format!("{kept} as {replaced} too: {why}"))?;
     }
     Ok(())
 }
