@@ -1,5 +1,5 @@
 -- The first claim that does not follow, found row by row. Assumes nothing.
-use mathlib.Core.Path.{_≡_, sym, ap, _∙_}
+use mathlib.Core.Path.{_≡_, refl, sym, ap, _∙_}
 use mathlib.Core.Bool.{Bool, true, false, cond}
 use mathlib.Core.List.{List, [], _∷_, _++_}
 use Prim.Native.Nat.{ℕ, zero, suc, _+_, _-_, _≤_, _<_}
@@ -73,6 +73,17 @@ module _ (rows : List ℕ) (f : Facts) (from : ℕ) where
     lost-first m h e =
         let whole : suc n + (m - suc n) ≡ m = omega arith in
         sym (lost-stays e (m - suc n)) ∙ ap lost whole
+
+-- a point without claims is owed nothing
+pub edge-none : (l : ℕ) (rows at : List ℕ) (t : ℕ) (h : Facts) → numberIn at t ≡ 0 → Accepted ≡ claimsJudged l h (pointIn rows at t)
+unfolding lostAlong firstLost
+edge-none l rows at t h e =
+    let none : pointIn rows at t .claims ≡ [] = ap (claimsFrom rows (firstIn at t)) e ∙ claims-none rows (firstIn at t) in
+    rw (none, nothing-lost (possible h))
+  where
+    nothing-lost : (b : Bool) → _≡_ {A = ℕ} (cond b 0 0) 0
+    nothing-lost true = refl
+    nothing-lost false = refl
 
 -- the three answers for an edge to point t along which g is known, where g is h
 module _ (l : ℕ) (rows at : List ℕ) (t : ℕ) (g h : Facts) (same : g ≡ h) where

@@ -98,13 +98,16 @@ module _ (rows at : List ℕ) (n p : ℕ) (holds : Holds rows at n) (inside : p 
       pub by-next : isRefused j ≡ true → j ≡ whole
       by-next r = sym (rest-is ∙ stays-refused j _ r)
 
-      -- by those of the target, or by nothing
-      pub by-target : isRefused j ≡ false → (t : ℕ) (h : Bool) → h ≡ hasTarget i → (h ≡ true → targets i ≡ t ∷ [])
-          → (x : Judgement) → x ≡ cond h (claimsJudged line (factsAlong (Target t) k f) (pointIn rows at t)) Accepted → x ≡ whole
-      by-target r t true e named x is =
-          let own = named refl in
-          is ∙ edge-is (Target t) t ∙ sym (rest-is ∙ rw (accepted j r, own) (then-accepted _ ∙ ap (λ (y : Point). claimsJudged (q .line) (factsAlong (Target t) i (factsOf (q .claims))) y) (points-at rows at n t (holds .target p t inside own))))
-      by-target r t false e named x is = is ∙ sym (rest-is ∙ rw (accepted j r, none-named (targets i) (sym e)))
+      -- by nothing, where no target is named
+      pub by-none : isRefused j ≡ false → hasTarget i ≡ false → Accepted ≡ whole
+      by-none r e = sym (rest-is ∙ rw (accepted j r, none-named (targets i) e))
+
+      -- by the claims of the target, with the facts of the point written again
+      pub by-target : isRefused j ≡ false → (g : Facts) → g ≡ factsOf (q .claims) → (t : ℕ) → targets i ≡ t ∷ []
+          → (x : Judgement) → x ≡ claimsJudged line (factsAlong (Target t) k g) (pointIn rows at t) → x ≡ whole
+      by-target r g again t own x is =
+          is ∙ ap (λ (y : Facts). claimsJudged line (factsAlong (Target t) k y) (pointIn rows at t)) (again ∙ sym facts) ∙ edge-is (Target t) t
+          ∙ sym (rest-is ∙ rw (accepted j r, own) (then-accepted _ ∙ ap (λ (y : Point). claimsJudged (q .line) (factsAlong (Target t) i (factsOf (q .claims))) y) (points-at rows at n t (holds .target p t inside own))))
 
 -- the points in order
 pub points-none : (ps : List Point) → pointsJudged ps 0 ≡ Accepted

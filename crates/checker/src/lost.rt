@@ -54,6 +54,7 @@ fn lost_among<'a>(
 }
 
 // The judgement of an edge to point t, by the claims of that point. Where there is no such edge, nothing is owed.
+// The ends become those along the edge.
 pub(crate) fn edge_judged<'a>(
     rows: &'a [u64],
     at: &'a [u16],
@@ -62,12 +63,10 @@ pub(crate) fn edge_judged<'a>(
     line: usize,
     e: Edge,
     i: Instruction,
-    low: &'a [u64; VARIABLES],
-    high: &'a [u64; VARIABLES],
+    low: &'a mut [u64; VARIABLES],
+    high: &'a mut [u64; VARIABLES],
     stripes: &'a [u64; STRIPE_NUMBERS],
     m: usize,
-    edge_low: &'a mut [u64; VARIABLES],
-    edge_high: &'a mut [u64; VARIABLES],
     edge_stripes: &'a mut [u64; STRIPE_NUMBERS],
 ) -> Judgement
     requires { ⌜ (there ≡ true → Placed (now rows) (now at) t) ⌝ }
@@ -80,23 +79,16 @@ pub(crate) fn edge_judged<'a>(
     if !there {
         return Judgement::Accepted;
     }
-    let count = along(
-        e,
-        i,
-        low,
-        high,
-        stripes,
-        m,
-        edge_low,
-        edge_high,
-        edge_stripes,
-    );
-    if !is_possible(edge_low, edge_high) {
+    let n = claims_of(at, t);
+    if n == 0 {
+        return Judgement::Accepted;
+    }
+    let count = along(e, i, low, high, stripes, m, edge_stripes);
+    if !is_possible(low, high) {
         return Judgement::Accepted;
     }
     let from = first_of(at, t);
-    let n = claims_of(at, t);
-    let lost = lost_among(rows, from, n, edge_high, edge_low, edge_stripes, count);
+    let lost = lost_among(rows, from, n, high, low, edge_stripes, count);
     if lost == 0 {
         return Judgement::Accepted;
     }

@@ -29,7 +29,7 @@ fn is_refused(j: Judgement) -> bool
     }
 }
 
-// Everything that point p of n owes, in order. The arrays are lent to be written in.
+// Everything that point p of n owes, in order. The arrays are lent to be written in; an edge changes the ends, so for a second one the facts are written again.
 fn point_judged<'a>(
     rows: &'a [u64],
     at: &'a [u16],
@@ -38,8 +38,6 @@ fn point_judged<'a>(
     low: &'a mut [u64; VARIABLES],
     high: &'a mut [u64; VARIABLES],
     stripes: &'a mut [u64; STRIPE_NUMBERS],
-    edge_low: &'a mut [u64; VARIABLES],
-    edge_high: &'a mut [u64; VARIABLES],
     edge_stripes: &'a mut [u64; STRIPE_NUMBERS],
 ) -> Judgement
     requires { ⌜ Holds (now rows) (now at) n × (p < n) ⌝ }
@@ -67,18 +65,20 @@ fn point_judged<'a>(
         high,
         stripes,
         m,
-        edge_low,
-        edge_high,
         edge_stripes,
     );
     if is_refused(next) {
         return next;
     }
+    if !has_target(r) {
+        return Judgement::Accepted;
+    }
+    let again = facts_at(rows, at, p, low, high, stripes);
     let t = r.fourth as usize;
     edge_judged(
         rows,
         at,
-        has_target(r),
+        true,
         t,
         line,
         Edge::Target(t),
@@ -86,9 +86,7 @@ fn point_judged<'a>(
         low,
         high,
         stripes,
-        m,
-        edge_low,
-        edge_high,
+        again,
         edge_stripes,
     )
 }
@@ -101,8 +99,6 @@ pub(crate) fn points_judged<'a>(rows: &'a [u64], at: &'a [u16], n: usize) -> Jud
     let mut low = [0u64; VARIABLES];
     let mut high = [0u64; VARIABLES];
     let mut stripes = [0u64; STRIPE_NUMBERS];
-    let mut edge_low = [0u64; VARIABLES];
-    let mut edge_high = [0u64; VARIABLES];
     let mut edge_stripes = [0u64; STRIPE_NUMBERS];
     let mut p = 0;
     while p < n {
@@ -114,8 +110,6 @@ pub(crate) fn points_judged<'a>(rows: &'a [u64], at: &'a [u16], n: usize) -> Jud
             &mut low,
             &mut high,
             &mut stripes,
-            &mut edge_low,
-            &mut edge_high,
             &mut edge_stripes,
         );
         if is_refused(j) {

@@ -3,8 +3,8 @@
 mod ranges;
 mod stripes;
 
+use crate::ranges::change;
 use crate::ranges::changes_along;
-use crate::ranges::write_ranges;
 use crate::stripes::carry_out;
 use crate::stripes::plan_along;
 use goals::rows::write_row;
@@ -75,27 +75,26 @@ pub fn with_claim<'a>(
     }
 }
 
-// Writes what is known along an edge of an instruction, from what is known at its point. The answer is how many rows there are.
+// Writes what is known along an edge of an instruction, from what is known at its point: the ends are changed where they stand, the rows are written anew.
+// The answer is how many rows there are.
 pub fn along<'a>(
     e: Edge,
     i: Instruction,
-    low: &'a [u64; VARIABLES],
-    high: &'a [u64; VARIABLES],
+    low: &'a mut [u64; VARIABLES],
+    high: &'a mut [u64; VARIABLES],
     rows: &'a [u64; STRIPE_NUMBERS],
     n: usize,
-    edge_low: &'a mut [u64; VARIABLES],
-    edge_high: &'a mut [u64; VARIABLES],
     edge_rows: &'a mut [u64; STRIPE_NUMBERS],
 ) -> usize
     requires { ⌜ AtPoint (now low) (now high) (now rows) n ⌝ }
     requires { ⌜ Limited i ⌝ }
     requires { ⌜ SizedRows (now «edge_rows») ⌝ }
-    ensures { λ r. ⌜ known (now («edge_low» .exit)) (now («edge_high» .exit)) (now («edge_rows» .exit)) r ≡ factsAlong e i (known (now (low .entry)) (now (high .entry)) (now (rows .entry)) n) ⌝ }
-    ensures { λ r. ⌜ AlongEdge (now («edge_low» .exit)) (now («edge_high» .exit)) (now («edge_rows» .exit)) r ⌝ }
+    ensures { λ r. ⌜ known (now (low .exit)) (now (high .exit)) (now («edge_rows» .exit)) r ≡ factsAlong e i (known (now (low .entry)) (now (high .entry)) (now (rows .entry)) n) ⌝ }
+    ensures { λ r. ⌜ AlongEdge (now (low .exit)) (now (high .exit)) (now («edge_rows» .exit)) r ⌝ }
 {
     let c = changes_along(e, i, low, high);
     let p = plan_along(e, i, low, high);
-    write_ranges(c, low, high, edge_low, edge_high);
+    change(c, low, high);
     carry_out(p, rows, n, edge_rows)
 }
 

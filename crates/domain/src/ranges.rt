@@ -464,26 +464,18 @@ pub(crate) fn changes_along<'a>(
     }
 }
 
-// Writes the ranges with their changes made.
-pub(crate) fn write_ranges<'a>(
-    c: Changes,
-    low: &'a [u64; VARIABLES],
-    high: &'a [u64; VARIABLES],
-    new_low: &'a mut [u64; VARIABLES],
-    new_high: &'a mut [u64; VARIABLES],
-)
+// Makes the changes.
+pub(crate) fn change<'a>(c: Changes, low: &'a mut [u64; VARIABLES], high: &'a mut [u64; VARIABLES])
     requires { ⌜ (c .v < variables) × (c .u < variables) ⌝ }
-    ensures { λ s. ⌜ now («new_low» .exit) ≡ set (set (now (low .entry)) (c .v) (c .r .lo)) (c .u) (c .q .lo) ⌝ }
-    ensures { λ s. ⌜ now («new_high» .exit) ≡ set (set (now (high .entry)) (c .v) (c .r .hi)) (c .u) (c .q .hi) ⌝ }
+    ensures { λ s. ⌜ now (low .exit) ≡ set (set (now (low .entry)) (c .v) (c .r .lo)) (c .u) (c .q .lo) ⌝ }
+    ensures { λ s. ⌜ now (high .exit) ≡ set (set (now (high .entry)) (c .v) (c .r .hi)) (c .u) (c .q .hi) ⌝ }
 {
     let v = c.v;
     let u = c.u;
     let r = c.r;
     let q = c.q;
-    *new_low = *low;
-    *new_high = *high;
-    new_low[v] = r.lo;
-    new_high[v] = r.hi;
-    new_low[u] = q.lo;
-    new_high[u] = q.hi;
+    low[v] = r.lo;
+    high[v] = r.hi;
+    low[u] = q.lo;
+    high[u] = q.hi;
 }

@@ -15,21 +15,21 @@ changes-along-requires c κs = search needs
 plan-along-requires : tie.Need-plan-along-requires
 plan-along-requires c κs = search needs
 
-write-ranges-requires : tie.Need-write-ranges-requires
-write-ranges-requires c κs = search needs
+change-requires : tie.Need-change-requires
+change-requires c κs = search needs
 
 carry-out-requires : tie.Need-carry-out-requires
 carry-out-requires c κs = search needs
 
 returns : tie.Need-returns
 returns c =
-    let start = c .before .before .before .before .before .before .before in
+    let start = c .before .before .before .before .before .before .before .before .before .before .before in
     let a = start .args in
     let ends = start .pre .0 .ends in
     let low = a .low .now in
     let high = a .high .now in
-    let changes = c .before .before .before .before .before .before .changes-along in
-    let wrote = c .before .before .write-ranges in
+    let changes = c .before .before .before .before .before .before .before .before .changes-along in
+    let wrote = c .before .before .change in
     let rest = c .carry-out .ensures in
     let rs : List Range = rangesOf low high in
     let new : List Range = rangesAlong (a .e) (a .i) rs in
@@ -49,6 +49,6 @@ along-spec =
     (tie.spec
     changes-along-requires
     plan-along-requires
-    write-ranges-requires
+    change-requires
     carry-out-requires
     returns)

@@ -5,8 +5,9 @@ use Rattle.decoded.specs.declared.rows.Row.{Row}
 use Rattle.decoded.specs.Decoded.{instructionFrom}
 use Rattle.decoded.proofs.ByKind.{own-target}
 use Rattle.checker.proofs.Laying.{none-stand}
-use Rattle.checker.proofs.Owing.{next-placed, target-placed, by-safety, by-next, by-target}
+use Rattle.checker.proofs.Owing.{next-placed, target-placed, by-safety, by-next, by-none, by-target}
 use borrow.Author.Needs.{needs}
+use borrow.Author.Tests.{not-true, not-false}
 use Rattle.checker.proofs.points.point_judged.Statement.{statement}
 use Rattle.checker.proofs.points.point_judged.Tie as tie
 
@@ -46,11 +47,11 @@ add-edge-judged c = search needs
 
 edge-judged-requires : tie.Need-edge-judged-requires
 edge-judged-requires c κs =
-    let h = c .before .before .before .before .before .before .before .before .before .before .before .before .before .before .before .before .before .before .before .before .before .before .pre .0 in
+    let h = c .before .before .before .before .before .before .before .before .before .before .before .before .before .before .before .before .before .before .before .before .pre .0 in
     let q = h .0 .all .each _ (h .1) in
-    let i = c .before .before .before .before .before .before .before .before .before .before .before .before .before .before .before .before .before .before .instruction-from .ensures ∙ ap instructionFrom (c .before .before .before .before .before .before .before .before .before .before .before .before .before .before .before .before .before .before .before .row-of .ensures) in (
-      next-placed _ _ _ _ (h .0) (h .1) _ _ _ (c .before .before .before .before .before .before .before .before .before .before .before .before .before .before .before .before .before .line-of .ensures) (c .before .before .before .before .before .before .before .before .before .before .before .before .before .facts-at .ensures .0) i _ (c .before .before .before .before .before .before .before .before .before .safety-judged .ensures) _ (c .before .before .before .before .before .before .goes-on .ensures),
-      (c .before .before .before .before .before .before .before .before .before .before .before .before .before .facts-at .ensures .1, (rw i (q .point .limited), c .before .before .before .before .before .before .before .before .before .before .before .before .before .before .before .before .before .before .before .before .before .before .pre .1 .1)),
+    let i = c .before .before .before .before .before .before .before .before .before .before .before .before .before .before .before .before .instruction-from .ensures ∙ ap instructionFrom (c .before .before .before .before .before .before .before .before .before .before .before .before .before .before .before .before .before .row-of .ensures) in (
+      next-placed _ _ _ _ (h .0) (h .1) _ _ _ (c .before .before .before .before .before .before .before .before .before .before .before .before .before .before .before .line-of .ensures) (c .before .before .before .before .before .before .before .before .before .before .before .facts-at .ensures .0) i _ (c .before .before .before .before .before .before .before .safety-judged .ensures) _ (c .before .before .before .before .goes-on .ensures),
+      (c .before .before .before .before .before .before .before .before .before .before .before .facts-at .ensures .1, (rw i (q .point .limited), c .before .before .before .before .before .before .before .before .before .before .before .before .before .before .before .before .before .before .before .before .pre .1 .1)),
     )
 
 is-refused-requires-2 : tie.Need-is-refused-requires-2
@@ -58,31 +59,43 @@ is-refused-requires-2 c κs = search needs
 
 returns-2 : tie.Need-returns-2
 returns-2 c =
-    let h = c .before .before .before .before .before .before .before .before .before .before .before .before .before .before .before .before .before .before .before .before .before .before .before .before .before .pre .0 in
-    let i = c .before .before .before .before .before .before .before .before .before .before .before .before .before .before .before .before .before .before .before .before .before .instruction-from .ensures ∙ ap instructionFrom (c .before .before .before .before .before .before .before .before .before .before .before .before .before .before .before .before .before .before .before .before .before .before .row-of .ensures) in (
-      by-next _ _ _ _ (h .0) (h .1) _ _ _ (c .before .before .before .before .before .before .before .before .before .before .before .before .before .before .before .before .before .before .before .before .line-of .ensures) (c .before .before .before .before .before .before .before .before .before .before .before .before .before .before .before .before .facts-at .ensures .0) i _ (c .before .before .before .before .before .before .before .before .before .before .before .before .safety-judged .ensures) (sym (c .before .before .before .before .before .before .before .before .before .before .before .is-refused .ensures) ∙ c .before .before .before .before .before .before .before .before .before .before .if1 .left) _ (c .before .before .before .before .before .before .before .before .before .goes-on .ensures) _ (c .before .before .edge-judged .ensures .0) (sym (c .before .is-refused2 .ensures) ∙ c .if2 .taken),
-      (none-stand _ _ (c .before .before .before .before .before .before .before .before .before .before .before .before .before .before .before .before .facts-at .ensures .1 .stripes), c .before .before .edge-judged .ensures .1),
+    let h = c .before .before .before .before .before .before .before .before .before .before .before .before .before .before .before .before .before .before .before .before .before .before .before .pre .0 in
+    let i = c .before .before .before .before .before .before .before .before .before .before .before .before .before .before .before .before .before .before .before .instruction-from .ensures ∙ ap instructionFrom (c .before .before .before .before .before .before .before .before .before .before .before .before .before .before .before .before .before .before .before .before .row-of .ensures) in (
+      by-next _ _ _ _ (h .0) (h .1) _ _ _ (c .before .before .before .before .before .before .before .before .before .before .before .before .before .before .before .before .before .before .line-of .ensures) (c .before .before .before .before .before .before .before .before .before .before .before .before .before .before .facts-at .ensures .0) i _ (c .before .before .before .before .before .before .before .before .before .before .safety-judged .ensures) (sym (c .before .before .before .before .before .before .before .before .before .is-refused .ensures) ∙ c .before .before .before .before .before .before .before .before .if1 .left) _ (c .before .before .before .before .before .before .before .goes-on .ensures) _ (c .before .before .edge-judged .ensures .0) (sym (c .before .is-refused2 .ensures) ∙ c .if2 .taken),
+      (none-stand _ _ (c .before .before .before .before .before .before .before .before .before .before .before .before .before .before .facts-at .ensures .1 .stripes), c .before .before .edge-judged .ensures .1),
     )
 
 has-target-requires : tie.Need-has-target-requires
 has-target-requires c κs = search needs
 
-edge-judged-requires-2 : tie.Need-edge-judged-requires-2
-edge-judged-requires-2 c κs =
-    let h = c .before .before .before .before .before .before .before .before .before .before .before .before .before .before .before .before .before .before .before .before .before .before .before .before .before .before .before .before .before .before .before .before .pre .0 in
-    let q = h .0 .all .each _ (h .1) in
-    let i = c .before .before .before .before .before .before .before .before .before .before .before .before .before .before .before .before .before .before .before .before .before .before .before .before .before .before .before .before .instruction-from .ensures ∙ ap instructionFrom (c .before .before .before .before .before .before .before .before .before .before .before .before .before .before .before .before .before .before .before .before .before .before .before .before .before .before .before .before .before .row-of .ensures) in (
-      λ on. target-placed _ _ _ _ (h .0) (h .1) _ _ _ (c .before .before .before .before .before .before .before .before .before .before .before .before .before .before .before .before .before .before .before .before .before .before .before .before .before .before .before .line-of .ensures) (c .before .before .before .before .before .before .before .before .before .before .before .before .before .before .before .before .before .before .before .before .before .before .before .facts-at .ensures .0) i _ (c .before .before .before .before .before .before .before .before .before .before .before .before .before .before .before .before .before .before .before .safety-judged .ensures) _ (ap (λ (r : Row). targets (instructionFrom r)) (sym (c .before .before .before .before .before .before .before .before .before .before .before .before .before .before .before .before .before .before .before .before .before .before .before .before .before .before .before .before .before .row-of .ensures)) ∙ own-target _ (sym (c .before .before .before .before .before .before .has-target .ensures) ∙ on)),
-      (c .before .before .before .before .before .before .before .before .before .before .before .before .before .before .before .before .before .before .before .before .before .before .before .facts-at .ensures .1, (rw i (q .point .limited), c .before .before .before .before .before .before .before .before .before .edge-judged .ensures .1)),
-    )
-
 returns-3 : tie.Need-returns-3
 returns-3 c =
+    let h = c .before .before .before .before .before .before .before .before .before .before .before .before .before .before .before .before .before .before .before .before .before .before .before .before .before .pre .0 in
+    let i = c .before .before .before .before .before .before .before .before .before .before .before .before .before .before .before .before .before .before .before .before .before .instruction-from .ensures ∙ ap instructionFrom (c .before .before .before .before .before .before .before .before .before .before .before .before .before .before .before .before .before .before .before .before .before .before .row-of .ensures) in (
+      by-none _ _ _ _ (h .0) (h .1) _ _ _ (c .before .before .before .before .before .before .before .before .before .before .before .before .before .before .before .before .before .before .before .before .line-of .ensures) (c .before .before .before .before .before .before .before .before .before .before .before .before .before .before .before .before .facts-at .ensures .0) i _ (c .before .before .before .before .before .before .before .before .before .before .before .before .safety-judged .ensures) (sym (c .before .before .before .before .before .before .before .before .before .before .before .is-refused .ensures) ∙ c .before .before .before .before .before .before .before .before .before .before .if1 .left) _ (c .before .before .before .before .before .before .before .before .before .goes-on .ensures) _ (c .before .before .before .before .edge-judged .ensures .0) (sym (c .before .before .before .is-refused2 .ensures) ∙ c .before .before .if2 .left)
+          (ap (λ (r : Row). hasTarget (instructionFrom r)) (sym (c .before .before .before .before .before .before .before .before .before .before .before .before .before .before .before .before .before .before .before .before .before .before .row-of .ensures)) ∙ sym (c .before .has-target .ensures) ∙ not-true _ (c .if3 .taken)),
+      (none-stand _ _ (c .before .before .before .before .before .before .before .before .before .before .before .before .before .before .before .before .facts-at .ensures .1 .stripes), c .before .before .before .before .edge-judged .ensures .1),
+    )
+
+facts-at-requires-2 : tie.Need-facts-at-requires-2
+facts-at-requires-2 c κs = (c .before .before .before .before .before .before .before .before .before .before .before .before .before .before .before .before .before .before .before .before .before .before .before .before .before .before .before .before .pre .0 .0 .all .each _ (c .before .before .before .before .before .before .before .before .before .before .before .before .before .before .before .before .before .before .before .before .before .before .before .before .before .before .before .before .pre .0 .1), none-stand _ _ (c .before .before .before .before .before .before .before .before .before .before .before .before .before .before .before .before .before .before .before .facts-at .ensures .1 .stripes))
+
+edge-judged-requires-2 : tie.Need-edge-judged-requires-2
+edge-judged-requires-2 c κs =
     let h = c .before .before .before .before .before .before .before .before .before .before .before .before .before .before .before .before .before .before .before .before .before .before .before .before .before .before .before .before .before .before .before .before .before .pre .0 in
+    let q = h .0 .all .each _ (h .1) in
     let i = c .before .before .before .before .before .before .before .before .before .before .before .before .before .before .before .before .before .before .before .before .before .before .before .before .before .before .before .before .before .instruction-from .ensures ∙ ap instructionFrom (c .before .before .before .before .before .before .before .before .before .before .before .before .before .before .before .before .before .before .before .before .before .before .before .before .before .before .before .before .before .before .row-of .ensures) in (
-      by-target _ _ _ _ (h .0) (h .1) _ _ _ (c .before .before .before .before .before .before .before .before .before .before .before .before .before .before .before .before .before .before .before .before .before .before .before .before .before .before .before .before .line-of .ensures) (c .before .before .before .before .before .before .before .before .before .before .before .before .before .before .before .before .before .before .before .before .before .before .before .before .facts-at .ensures .0) i _ (c .before .before .before .before .before .before .before .before .before .before .before .before .before .before .before .before .before .before .before .before .safety-judged .ensures) (sym (c .before .before .before .before .before .before .before .before .before .before .before .before .before .before .before .before .before .before .before .is-refused .ensures) ∙ c .before .before .before .before .before .before .before .before .before .before .before .before .before .before .before .before .before .before .if1 .left) _ (c .before .before .before .before .before .before .before .before .before .before .before .before .before .before .before .before .before .goes-on .ensures) _ (c .before .before .before .before .before .before .before .before .before .before .edge-judged .ensures .0) (sym (c .before .before .before .before .before .before .before .before .before .is-refused2 .ensures) ∙ c .before .before .before .before .before .before .before .before .if2 .left)
-          _ _ (c .before .before .before .before .before .before .before .has-target .ensures ∙ ap (λ (r : Row). hasTarget (instructionFrom r)) (c .before .before .before .before .before .before .before .before .before .before .before .before .before .before .before .before .before .before .before .before .before .before .before .before .before .before .before .before .before .before .row-of .ensures)) (λ on. ap (λ (r : Row). targets (instructionFrom r)) (sym (c .before .before .before .before .before .before .before .before .before .before .before .before .before .before .before .before .before .before .before .before .before .before .before .before .before .before .before .before .before .before .row-of .ensures)) ∙ own-target _ (sym (c .before .before .before .before .before .before .before .has-target .ensures) ∙ on)) _ (c .edge-judged2 .ensures .0),
-      (none-stand _ _ (c .before .before .before .before .before .before .before .before .before .before .before .before .before .before .before .before .before .before .before .before .before .before .before .before .facts-at .ensures .1 .stripes), c .edge-judged2 .ensures .1),
+      λ on. target-placed _ _ _ _ (h .0) (h .1) _ _ _ (c .before .before .before .before .before .before .before .before .before .before .before .before .before .before .before .before .before .before .before .before .before .before .before .before .before .before .before .before .line-of .ensures) (c .before .before .before .before .before .before .before .before .before .before .before .before .before .before .before .before .before .before .before .before .before .before .before .before .facts-at .ensures .0) i _ (c .before .before .before .before .before .before .before .before .before .before .before .before .before .before .before .before .before .before .before .before .safety-judged .ensures) _ (ap (λ (r : Row). targets (instructionFrom r)) (sym (c .before .before .before .before .before .before .before .before .before .before .before .before .before .before .before .before .before .before .before .before .before .before .before .before .before .before .before .before .before .before .row-of .ensures)) ∙ own-target _ (sym (c .before .before .before .before .before .before .before .before .before .has-target .ensures) ∙ not-false _ (c .before .before .before .before .before .before .before .before .if3 .left))),
+      (c .before .before .before .before .facts-at2 .ensures .1, (rw i (q .point .limited), c .before .before .before .before .before .before .before .before .before .before .before .before .edge-judged .ensures .1)),
+    )
+
+returns-4 : tie.Need-returns-4
+returns-4 c =
+    let h = c .before .before .before .before .before .before .before .before .before .before .before .before .before .before .before .before .before .before .before .before .before .before .before .before .before .before .before .before .before .before .before .before .before .before .pre .0 in
+    let i = c .before .before .before .before .before .before .before .before .before .before .before .before .before .before .before .before .before .before .before .before .before .before .before .before .before .before .before .before .before .before .instruction-from .ensures ∙ ap instructionFrom (c .before .before .before .before .before .before .before .before .before .before .before .before .before .before .before .before .before .before .before .before .before .before .before .before .before .before .before .before .before .before .before .row-of .ensures) in (
+      by-target _ _ _ _ (h .0) (h .1) _ _ _ (c .before .before .before .before .before .before .before .before .before .before .before .before .before .before .before .before .before .before .before .before .before .before .before .before .before .before .before .before .before .line-of .ensures) (c .before .before .before .before .before .before .before .before .before .before .before .before .before .before .before .before .before .before .before .before .before .before .before .before .before .facts-at .ensures .0) i _ (c .before .before .before .before .before .before .before .before .before .before .before .before .before .before .before .before .before .before .before .before .before .safety-judged .ensures) (sym (c .before .before .before .before .before .before .before .before .before .before .before .before .before .before .before .before .before .before .before .before .is-refused .ensures) ∙ c .before .before .before .before .before .before .before .before .before .before .before .before .before .before .before .before .before .before .before .if1 .left) _ (c .before .before .before .before .before .before .before .before .before .before .before .before .before .before .before .before .before .before .goes-on .ensures) _ (c .before .before .before .before .before .before .before .before .before .before .before .before .before .edge-judged .ensures .0) (sym (c .before .before .before .before .before .before .before .before .before .before .before .before .is-refused2 .ensures) ∙ c .before .before .before .before .before .before .before .before .before .before .before .if2 .left)
+          _ (c .before .before .before .before .before .facts-at2 .ensures .0) _ (ap (λ (r : Row). targets (instructionFrom r)) (sym (c .before .before .before .before .before .before .before .before .before .before .before .before .before .before .before .before .before .before .before .before .before .before .before .before .before .before .before .before .before .before .before .row-of .ensures)) ∙ own-target _ (sym (c .before .before .before .before .before .before .before .before .before .before .has-target .ensures) ∙ not-false _ (c .before .before .before .before .before .before .before .before .before .if3 .left))) _ (c .edge-judged2 .ensures .0),
+      (none-stand _ _ (c .before .before .before .before .before .facts-at2 .ensures .1 .stripes), c .edge-judged2 .ensures .1),
     )
 
 pub point-judged-spec : {M : Type 1} → statement M
@@ -102,5 +115,7 @@ point-judged-spec =
     is-refused-requires-2
     returns-2
     has-target-requires
+    returns-3
+    facts-at-requires-2
     edge-judged-requires-2
-    returns-3)
+    returns-4)

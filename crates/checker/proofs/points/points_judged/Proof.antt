@@ -16,36 +16,36 @@ use Rattle.checker.proofs.points.points_judged.Statement.{statement}
 use Rattle.checker.proofs.points.points_judged.Tie as tie
 
 abbrev Inv-loop : tie.InvT-loop
-Inv-loop rows at n low₀ high₀ stripes₀ edge-low₀ edge-high₀ edge-stripes₀ p₀ low high stripes edge-low edge-high edge-stripes p =
+Inv-loop rows at n low₀ high₀ stripes₀ edge-stripes₀ p₀ low high stripes edge-stripes p =
     (p ≤ n) × (pointsJudged (pointsIn rows at n) p ≡ Accepted) × Standing stripes 0 × SizedRows edge-stripes
 
 abbrev μ-loop : tie.MeasureT-loop
-μ-loop rows at n low₀ high₀ stripes₀ edge-low₀ edge-high₀ edge-stripes₀ p₀ low high stripes edge-low edge-high edge-stripes p =
+μ-loop rows at n low₀ high₀ stripes₀ edge-stripes₀ p₀ low high stripes edge-stripes p =
     n - p
 
 loop-holds : tie.Need-loop-holds Inv-loop μ-loop
 loop-holds c = (omega arith, points-none _, none-standing, zeros (edgeStripes * 6) greatestPart)
 
 point-judged-requires : tie.Need-point-judged-requires Inv-loop μ-loop
-point-judged-requires c κs = let l = c .before .before .before .before .before .before .before .loop in ((c .before .before .before .before .before .before .before .before .before .before .pre, c .before .before .before .before .before .before .loop-test .taken), (l .inv .2, l .inv .3))
+point-judged-requires c κs = let l = c .before .before .before .before .before .loop in ((c .before .before .before .before .before .before .before .before .pre, c .before .before .before .before .loop-test .taken), (l .inv .2, l .inv .3))
 
 is-refused-requires : tie.Need-is-refused-requires Inv-loop μ-loop
 is-refused-requires c κs = search needs
 
 returns : tie.Need-returns Inv-loop μ-loop
-returns c = refused-all _ _ _ _ (c .before .before .before .before .before .before .before .before .before .loop-test .taken) _ (c .before .before .before .before .before .before .before .before .before .before .loop .inv .1) (c .before .before .point-judged .ensures .0) (sym (c .before .is-refused .ensures) ∙ c .if1 .taken)
+returns c = refused-all _ _ _ _ (c .before .before .before .before .before .before .before .loop-test .taken) _ (c .before .before .before .before .before .before .before .before .loop .inv .1) (c .before .before .point-judged .ensures .0) (sym (c .before .is-refused .ensures) ∙ c .if1 .taken)
 
 add-p : tie.Need-add-p Inv-loop μ-loop
-add-p c = let t = c .before .before .before .before .before .before .before .before .before .loop-test .taken in let few = c .before .before .before .before .before .before .before .before .before .before .before .before .before .pre .all .few in omega arith
+add-p c = let t = c .before .before .before .before .before .before .before .loop-test .taken in let few = c .before .before .before .before .before .before .before .before .before .before .before .pre .all .few in omega arith
 
 loop-less : tie.Need-loop-less Inv-loop μ-loop
 loop-less c = omega arith
 
 loop-again : tie.Need-loop-again Inv-loop μ-loop
 loop-again c =
-    let t = c .before .before .before .before .before .before .before .before .before .loop-test .taken in
+    let t = c .before .before .before .before .before .before .before .loop-test .taken in
     let e = c .before .before .point-judged .ensures in
-    (omega arith, accepted-next _ _ _ _ t _ (c .before .before .before .before .before .before .before .before .before .before .loop .inv .1) (e .0) (sym (c .before .is-refused .ensures) ∙ c .if1 .left), e .1 .0, e .1 .1)
+    (omega arith, accepted-next _ _ _ _ t _ (c .before .before .before .before .before .before .before .before .loop .inv .1) (e .0) (sym (c .before .is-refused .ensures) ∙ c .if1 .left), e .1 .0, e .1 .1)
 
 returns-2 : tie.Need-returns-2 Inv-loop μ-loop
 returns-2 c =
