@@ -1,9 +1,9 @@
 -- Rows and places hold what is read, one line more at a time. Assumes nothing.
-use mathlib.Core.Path.{_≡_, refl, ap, ap₂, subst, _∙_}
+use mathlib.Core.Path.{_≡_, refl, sym, ap, ap₂, subst, _∙_}
 use mathlib.Core.Bool.{true}
 use mathlib.Core.List.{List, [], _∷_, _++_}
-use Prim.Native.Nat.{ℕ, suc, _+_, _*_, _-_, _≤_, _<_}
-use native.Mathlib.Nat.{not-suc-le-zero}
+use Prim.Native.Nat.{ℕ, zero, suc, _+_, _*_, _-_, _≤_, _<_}
+use native.Mathlib.Nat.{add-zero, not-suc-le-zero}
 use native.Mathlib.Omega.{arith}
 use native.Mathlib.Numerals.{add-one}
 use native.Mathlib.Decide.{ℕ-discrete, decLe}
@@ -16,6 +16,7 @@ use Rattle.model.specs.declared.claims.Claim.{Claim}
 use Rattle.model.specs.declared.claims.Claim.the-variants.{Leas, Most, Strp}
 use Rattle.model.specs.declared.claims.Line.{Line}
 use Rattle.model.specs.declared.claims.Line.the-variants.{Refused as refusedLine, Claim as claimLine, Instruction as instructionLine}
+use Rattle.model.specs.declared.answers.Refusal.{Refusal}
 use Rattle.model.specs.declared.answers.Refusal.the-variants.{ClaimOrder}
 use Rattle.model.specs.Limits.{lineBytes, greatestPoints, greatestStripes}
 use Rattle.model.specs.Limited.{Limited, ClaimLimited, LineLimited}
@@ -31,6 +32,7 @@ use Rattle.decoded.proofs.Decoding.{instruction-held}
 use Rattle.decoded.proofs.Claims.{claim-held, claims-next, claims-kept}
 use Rattle.reader.specs.declared.read.Read.{Read}
 use Rattle.reader.specs.declared.scan.Progress.{Progress}
+use Rattle.reader.specs.declared.scan.Progress.the-variants.{Turned}
 use Rattle.reader.specs.Sizes.{greatestLines, placeNumbers}
 use Rattle.reader.specs.Scan.{sortOf, progressOf, afterScan, Within}
 use Rattle.reader.specs.Points.{lineIn, numberIn, pointOn, ClaimRows, PointRows}
@@ -249,6 +251,24 @@ module _ (s : List ℕ) (n : ℕ) where
       → ScannedSo rows at n (readTo s n) → ScannedSo (withRow rows n r) (noted at p n (sortOf (lineRead s n))) (suc n) (readTo s (suc n))
   lines-next rows at p r is e room short long h =
       rw (is, read-next) (scanned-next rows at n (readTo s n) (lineRead s n) r e (read-limited (n + 1) (lineAt s n)) room short long h)
+
+-- a reading that is turned back stays so
+turned-is : (x : Reading) (r : Refusal) → progressOf x ≡ Turned r → x ≡ refusedReading r
+turned-is (refusedReading q) r e = let same : q ≡ r = cc in ap refusedReading same
+turned-is (going ps cs) r e = let z : _≡_ {A = ℕ} 0 1 = cc in absurd (omega arith)
+
+turned-stays : (s : List ℕ) (k : ℕ) (r : Refusal) → readTo s k ≡ refusedReading r → (d : ℕ) → readTo s (k + d) ≡ refusedReading r
+turned-stays s k r e zero = ap (readTo s) (add-zero k) ∙ e
+turned-stays s k r e (suc d) =
+    let more : k + suc d ≡ suc (k + d) = omega arith in
+    ap (readTo s) more ∙ read-next s (k + d) ∙ ap (λ (x : Reading). afterLine x (k + d) (lineRead s (k + d))) (turned-stays s k r e d)
+
+-- what is handed back where the first k of n lines are turned back
+pub turned-back : (s rows at : List ℕ) (k n : ℕ) (r : Refusal) → k ≤ n → progressOf (readTo s k) ≡ Turned r → (Turned r ≡ progressOf (readTo s n)) × ScannedSo rows at n (readTo s n)
+turned-back s rows at k n r h e =
+    let whole : k + (n - k) ≡ n = omega arith in
+    let all : readTo s n ≡ refusedReading r = ap (readTo s) (sym whole) ∙ turned-stays s k r (turned-is (readTo s k) r e) (n - k) in
+    rw all (refl, tt)
 
 -- the bytes that the code cuts out are the line
 pub line-read : (s : List ℕ) (k : ℕ) (x : Read) → ReadAs (readLine (k + 1) (take (k * lineBytes + lineBytes - k * lineBytes) (drop (k * lineBytes) s))) x → ReadAs (lineRead s k) x

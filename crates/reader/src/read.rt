@@ -106,7 +106,7 @@ fn read_bytes(place: usize, l: &[u8]) -> Read
     refused(Refusal::LineBytes { line: place })
 }
 
-// The first n lines: what was read, or the first refusal.
+// The first n lines: what was read, or the first refusal, after which no line is looked at.
 pub(crate) fn read_lines(listing: &[u8], n: usize, rows: &mut [u64], at: &mut [u16]) -> Progress
     requires { ⌜ (n ≤ greatestLines) × (n * lineBytes ≤ length (now listing)) ⌝ }
     requires { ⌜ n * 8 ≤ length (now rows) ⌝ }
@@ -125,6 +125,9 @@ pub(crate) fn read_lines(listing: &[u8], n: usize, rows: &mut [u64], at: &mut [u
         write_row(rows, k, row);
         note(at, p, k, sort);
         p = after(p, k, sort);
+        if let Progress::Turned(r) = p {
+            return Progress::Turned(r);
+        }
         k += 1;
     }
     p

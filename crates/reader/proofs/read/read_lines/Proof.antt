@@ -1,5 +1,5 @@
 -- The loop keeps what was read, the rows and the places equal to the definitions. Assumes nothing.
-use Prim.Native.Nat.{_≤_, _-_}
+use Prim.Native.Nat.{suc, _≤_, _-_}
 use mathlib.Core.Path.{_≡_, refl, _∙_}
 use native.Mathlib.Omega.{arith}
 use native.Mathlib.Numerals.{add-one}
@@ -9,7 +9,7 @@ use Rattle.model.specs.Listing.{readTo}
 use Rattle.decoded.proofs.Written.{row-long}
 use Rattle.reader.specs.Scan.{progressOf}
 use Rattle.reader.specs.Read.{ScannedSo}
-use Rattle.reader.proofs.Keeping.{scanned-none, within, progress-next, lines-next, line-read}
+use Rattle.reader.proofs.Keeping.{scanned-none, within, progress-next, lines-next, turned-back, line-read}
 use Rattle.reader.proofs.read.read_lines.Statement.{statement}
 use Rattle.reader.proofs.read.read_lines.Tie as tie
 
@@ -56,6 +56,26 @@ note-requires c κs = let s = c .before .before .before .before .before .before 
 after-requires : tie.Need-after-requires Inv-loop μ-loop
 after-requires c κs = let s = c .before .before .before .before .before .before .before .before .before .before .before .before .before .before .before .before .before in let l = c .before .before .before .before .before .before .before .before .before .before .before .before .loop in (omega arith, rw (l .inv .4) (within (l .rows) (l .at) (l .k) (readTo (s .args .listing .now) (l .k)) (l .inv .3)))
 
+enum-known-p : tie.Need-enum-known-p Inv-loop μ-loop
+enum-known-p c = search needs
+
+same-length : tie.Need-same-length Inv-loop μ-loop
+same-length c = rw (c .before .before .before .before .before .before .before .before .before .before .write-row .ensures) (row-long _ _ _ ∙ c .before .before .before .before .before .before .before .before .before .before .before .before .before .before .before .before .loop .inv .1)
+
+same-length-2 : tie.Need-same-length-2 Inv-loop μ-loop
+same-length-2 c = c .before .before .before .before .before .before .note .kept .0 ∙ c .before .before .before .before .before .before .before .before .before .before .before .before .before .before .before .before .loop .inv .2
+
+returns : tie.Need-returns Inv-loop μ-loop
+returns c =
+    let l = c .before .before .before .before .before .before .before .before .before .before .before .before .before .before .before .before .loop in
+    let t = c .before .before .before .before .before .before .before .before .before .before .before .before .before .before .before .loop-test .taken in
+    let line = line-read _ _ _ (c .before .before .before .before .before .before .before .before .before .before .before .before .before .read-bytes .ensures) in
+    turned-back (c .before .before .before .before .before .before .before .before .before .before .before .before .before .before .before .before .before .before .before .before .before .args .listing .now) _ _ (suc (l .k)) _ _ (omega arith)
+    (rw (progress-next, ← line .sort, ← l .inv .4, ← c .before .before .before .after .ensures) (c .before .p .given .1))
+
+enum-told : tie.Need-enum-told Inv-loop μ-loop
+enum-told c = search needs
+
 add-k : tie.Need-add-k Inv-loop μ-loop
 add-k c = omega arith
 
@@ -64,27 +84,27 @@ loop-less c = omega arith
 
 loop-again : tie.Need-loop-again Inv-loop μ-loop
 loop-again c =
-    let l = c .before .before .before .before .before .before .before .before .before .before .before .before .before .loop in
-    let a = c .before .before .before .before .before .before .before .before .before .before .before .before .before .before .before .before .before .before in
+    let l = c .before .before .before .before .before .before .before .before .before .before .before .before .before .before .before .loop in
+    let a = c .before .before .before .before .before .before .before .before .before .before .before .before .before .before .before .before .before .before .before .before in
     let i = l .inv .1 in
     let p = a .pre .1 .0 in
-    let t = c .before .before .before .before .before .before .before .before .before .before .before .before .loop-test .taken in
-    let line = line-read _ _ _ (c .before .before .before .before .before .before .before .before .before .before .read-bytes .ensures) in (
+    let t = c .before .before .before .before .before .before .before .before .before .before .before .before .before .before .loop-test .taken in
+    let line = line-read _ _ _ (c .before .before .before .before .before .before .before .before .before .before .before .before .read-bytes .ensures) in (
       omega arith,
-      rw (c .before .before .before .before .before .before .before .write-row .ensures) (row-long _ _ _ ∙ l .inv .1),
-      c .before .before .before .note .kept .0 ∙ l .inv .2,
-      rw (c .before .before .before .before .before .before .before .write-row .ensures, c .before .before .before .note .ensures, add-one (l .k), line .sort) (lines-next _ _ _ _ (l .p) _ (l .inv .4) (line .row) (omega arith) (omega arith) (l .inv .2 ∙ a .pre .1 .1) (l .inv .3)),
-      rw (add-one (l .k), progress-next, c .after .ensures, line .sort, l .inv .4),
+      rw (c .before .before .before .before .before .before .before .before .before .write-row .ensures) (row-long _ _ _ ∙ l .inv .1),
+      c .before .before .before .before .before .note .kept .0 ∙ l .inv .2,
+      rw (c .before .before .before .before .before .before .before .before .before .write-row .ensures, c .before .before .before .before .before .note .ensures, add-one (l .k), line .sort) (lines-next _ _ _ _ (l .p) _ (l .inv .4) (line .row) (omega arith) (omega arith) (l .inv .2 ∙ a .pre .1 .1) (l .inv .3)),
+      rw (add-one (l .k), progress-next, c .before .before .after .ensures, line .sort, l .inv .4),
     )
 
-same-length : tie.Need-same-length Inv-loop μ-loop
-same-length c = c .before .loop .inv .1
+same-length-3 : tie.Need-same-length-3 Inv-loop μ-loop
+same-length-3 c = c .before .loop .inv .1
 
-same-length-2 : tie.Need-same-length-2 Inv-loop μ-loop
-same-length-2 c = c .before .loop .inv .2
+same-length-4 : tie.Need-same-length-4 Inv-loop μ-loop
+same-length-4 c = c .before .loop .inv .2
 
-returns : tie.Need-returns Inv-loop μ-loop
-returns c =
+returns-2 : tie.Need-returns-2 Inv-loop μ-loop
+returns-2 c =
     let l = c .before .loop in
     let a = c .before .before .before .before .before .before in
     let e : l .k ≡ a .args .n = omega arith in
@@ -108,9 +128,14 @@ read-lines-spec =
     write-row-requires
     note-requires
     after-requires
+    enum-known-p
+    same-length
+    same-length-2
+    returns
+    enum-told
     add-k
     loop-less
     loop-again
-    same-length
-    same-length-2
-    returns)
+    same-length-3
+    same-length-4
+    returns-2)
