@@ -10,6 +10,10 @@ use output::printed::printed;
 use reader::listing::Listing;
 use reader::listing::read_listing;
 use reader::sizes::ALL_ROWS;
+use reader::sizes::FEW_LISTING;
+use reader::sizes::FEW_ROWS;
+use reader::sizes::LONG_LISTING;
+use reader::sizes::LONG_ROWS;
 use reader::sizes::PLACE_NUMBERS;
 use reader::sizes::SHORT_LISTING;
 use reader::sizes::SHORT_ROWS;
@@ -55,22 +59,40 @@ fn check_in(listing: &[u8], rows: &mut [u64]) -> Verdict
     }
 }
 
-// The checker's answer: the number of points of a passed listing, or the first refusal. Nothing that is lent changes.
-// A short listing has few rows, so that its call does not pay for the longest.
-pub fn check(listing: &[u8]) -> Verdict
+// The checker's answer for more than few lines. It stays a function of its own: its rows take a large part of the stack, which a call for few lines does not touch.
+fn check_many(listing: &[u8]) -> Verdict
     ensures { λ r. ⌜ r ≡ Check.check (now (listing .entry)) ⌝ }
 {
     if listing.len() <= SHORT_LISTING {
         let mut rows = [0u64; SHORT_ROWS];
         return check_in(listing, &mut rows);
     }
+    if listing.len() <= LONG_LISTING {
+        let mut rows = [0u64; LONG_ROWS];
+        return check_in(listing, &mut rows);
+    }
     let mut rows = [0u64; ALL_ROWS];
     check_in(listing, &mut rows)
+}
+
+// The checker's answer: the number of points of a passed listing, or the first refusal. Nothing that is lent changes.
+pub fn check(listing: &[u8]) -> Verdict
+    ensures { λ r. ⌜ r ≡ Check.check (now (listing .entry)) ⌝ }
+{
+    if listing.len() <= FEW_LISTING {
+        let mut rows = [0u64; FEW_ROWS];
+        return check_in(listing, &mut rows);
+    }
+    check_many(listing)
 }
 
 // The line of 40 bytes that the program prints for a listing.
 pub fn report(listing: &[u8]) -> [u8; 40]
     ensures { λ r. ⌜ r ≡ Output.printed (Check.check (now (listing .entry))) ⌝ }
 {
-    printed(check(listing))
+    if listing.len() <= FEW_LISTING {
+        let mut rows = [0u64; FEW_ROWS];
+        return printed(check_in(listing, &mut rows));
+    }
+    printed(check_many(listing))
 }

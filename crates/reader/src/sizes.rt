@@ -4,14 +4,26 @@ use model::limits::GREATEST_LISTING;
 use model::limits::GREATEST_POINTS;
 use model::limits::LINE_BYTES;
 
-// A listing of at most so many lines is short: its rows are few, so that its call does not pay for the longest.
+// Listings by their lines, each with rows of its own, so that no call pays for the longest: few, short and long.
+const FEW_LINES: usize = 16;
+
 const SHORT_LINES: usize = 64;
 
-// The bytes of the longest listing that is short.
+const LONG_LINES: usize = 512;
+
+// The bytes of the longest listing of each.
+pub const FEW_LISTING: usize = FEW_LINES * LINE_BYTES;
+
 pub const SHORT_LISTING: usize = SHORT_LINES * LINE_BYTES;
 
-// The rows of a short listing.
+pub const LONG_LISTING: usize = LONG_LINES * LINE_BYTES;
+
+// The rows of each.
+pub const FEW_ROWS: usize = FEW_LINES * ROW_NUMBERS;
+
 pub const SHORT_ROWS: usize = SHORT_LINES * ROW_NUMBERS;
+
+pub const LONG_ROWS: usize = LONG_LINES * ROW_NUMBERS;
 
 // The rows of the longest listing.
 pub const ALL_ROWS: usize = GREATEST_LISTING / LINE_BYTES * ROW_NUMBERS;

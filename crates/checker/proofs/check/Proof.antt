@@ -13,22 +13,11 @@ check-in-requires c κs = λ short. rw length-replicate (omega arith)
 returns : tie.Need-returns
 returns c = c .before .check-in .ensures
 
-slice-aggregate-check-in-2 : tie.Need-slice-aggregate-check-in-2
-slice-aggregate-check-in-2 c = search needs
-
-check-in-requires-2 : tie.Need-check-in-requires-2
-check-in-requires-2 c κs = λ short. rw length-replicate (omega arith)
+check-many-requires : tie.Need-check-many-requires
+check-many-requires c κs = search needs
 
 returns-2 : tie.Need-returns-2
-returns-2 c = c .before .check-in2 .ensures
+returns-2 c = c .check-many .ensures
 
 pub check-spec : {M : Type 1} → statement M
-check-spec =
-    tie.close
-    (tie.spec
-    slice-aggregate-check-in
-    check-in-requires
-    returns
-    slice-aggregate-check-in-2
-    check-in-requires-2
-    returns-2)
+check-spec = tie.close (tie.spec slice-aggregate-check-in check-in-requires returns check-many-requires returns-2)
