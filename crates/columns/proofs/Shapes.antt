@@ -109,6 +109,24 @@ module _ (s : List ℕ) (at : ℕ) where
   unfolding fieldOf
   blank i n q e = rw (← q, e)
 
+  -- four spaces after spaces
+  pub four-spaces : (i : ℕ) → shapeOf s at i ≡ Spaces → digitsOf s at i ≡ 0
+      → (eqb (getD s (at + i) 0) space && eqb (getD s (at + i + 1) 0) space && eqb (getD s (at + i + 2) 0) space && eqb (getD s (at + i + 3) 0) space) ≡ true
+      → (shapeOf s at (i + 4) ≡ Spaces) × (digitsOf s at (i + 4) ≡ 0)
+  four-spaces i e z h =
+      let (abc, d) = and-both-of _ _ h in
+      let (ab, c) = and-both-of _ _ abc in
+      let (a, b) = and-both-of _ _ ab in
+      let p1 : at + i + 1 ≡ at + (i + 1) = omega arith in
+      let p2 : at + i + 2 ≡ at + (i + 1 + 1) = omega arith in
+      let p3 : at + i + 3 ≡ at + (i + 1 + 1 + 1) = omega arith in
+      let all : i + 1 + 1 + 1 + 1 ≡ i + 4 = omega arith in
+      let (e1, z1) = space-more i e z (eqb-true _ _ a) in
+      let (e2, z2) = space-more (i + 1) e1 z1 (rw (← p1) (eqb-true _ _ b)) in
+      let (e3, z3) = space-more (i + 1 + 1) e2 z2 (rw (← p2) (eqb-true _ _ c)) in
+      let (e4, z4) = space-more (i + 1 + 1 + 1) e3 z3 (rw (← p3) (eqb-true _ _ d)) in
+      (rw all at e4, rw all at z4)
+
   -- four columns of spaces
   pub blank-four : (n : ℕ) → n ≡ 4 → (eqb (getD s at 0) space && eqb (getD s (at + 1) 0) space && eqb (getD s (at + 2) 0) space && eqb (getD s (at + 3) 0) space) ≡ true → fieldOf s at n ≡ Blank
   unfolding shapeOf digitsOf

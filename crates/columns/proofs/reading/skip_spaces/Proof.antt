@@ -1,8 +1,9 @@
 -- The loop's invariant: the columns passed are spaces. Assumes nothing.
 use Prim.Native.Nat.{_≤_, _-_}
 use native.Mathlib.Omega.{arith}
-use mathlib.Core.Path.{_≡_, refl}
+use mathlib.Core.Path.{_≡_}
 use borrow.Author.Tests.{ne-eqb}
+use borrow.Author.Needs.{needs}
 use Rattle.model.specs.declared.text.Shape.the-variants.{Spaces}
 use Rattle.model.specs.Text.{shapeOf, digitsOf}
 use Rattle.columns.proofs.Shapes.{space-more}
@@ -15,9 +16,11 @@ Inv-loop l at n i₀ i = (i ≤ n) × (shapeOf l at i ≡ Spaces) × (digitsOf l
 abbrev μ-loop : tie.MeasureT-loop
 μ-loop l at n i₀ i = n - i
 
+skip-fours-requires : tie.Need-skip-fours-requires Inv-loop μ-loop
+skip-fours-requires c κs = search needs
+
 loop-holds : tie.Need-loop-holds Inv-loop μ-loop
-unfolding shapeOf digitsOf
-loop-holds c = (omega arith, refl, refl)
+loop-holds c = c .skip-fours .ensures
 
 add-if1 : tie.Need-add-if1 Inv-loop μ-loop
 add-if1 c = omega arith
@@ -49,6 +52,7 @@ skip-spaces-spec =
     (tie.spec
     Inv-loop
     μ-loop
+    skip-fours-requires
     loop-holds
     add-if1
     shared-slice-read-if1
