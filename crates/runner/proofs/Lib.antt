@@ -3,3 +3,4 @@ pub mod Gathered
 pub mod States
 pub mod Running
 pub mod Promise
+pub mod Counted

@@ -1,11 +1,12 @@
 -- What the parts of a run hand to each other.
-use Prim.Native.Nat.{ℕ, _*_, _≤_, _<_}
+use Prim.Native.Nat.{ℕ, _*_, _/_, _≤_, _<_}
 use mathlib.Core.Path.{_≡_}
 use mathlib.Core.List.{List}
 use lib.ListN.{length}
 use Rattle.model.specs.declared.machine.State.{State}
 use Rattle.model.specs.declared.answers.Report.{Report}
 use Rattle.model.specs.declared.answers.Outcome.{Outcome}
+use Rattle.model.specs.Limits.{lineBytes, greatestPoints}
 use Rattle.model.specs.Run.{Ran}
 use Rattle.decoded.specs.Rows.{rowAt}
 use Rattle.decoded.specs.Decoded.{instructionFrom}
@@ -24,6 +25,10 @@ outcome r s n = record { report = r; state = s; steps = n }
 pub record Gathered (rows at : List ℕ) (n : ℕ) (code : List ℕ) : Type 0 where
   pub long : n * 8 ≤ length code
   pub each : (p : ℕ) → p < n → instructionFrom (rowAt code p) ≡ pointIn rows at p .instruction
+
+-- the code has room for the points that a listing of so many bytes can have
+abbrev pub CodeRoom : ℕ → List ℕ → Type 0
+CodeRoom bytes code = (n : ℕ) → n ≤ greatestPoints → n ≤ bytes / lineBytes → n * 8 ≤ length code
 
 -- a run hands back the outcome of the model's run, and the results hold its bytes
 pub record RunByValue (r : Ran) (o : Outcome) (rs : List ℕ) : Type 0 where

@@ -19,6 +19,10 @@ use model::machine::State;
 use reader::facts::facts_at;
 use reader::places::row_of;
 use reader::sizes::ALL_ROWS;
+use reader::sizes::FEW_LISTING;
+use reader::sizes::FEW_ROWS;
+use reader::sizes::LONG_LISTING;
+use reader::sizes::LONG_ROWS;
 use reader::sizes::PLACE_NUMBERS;
 use reader::sizes::SHORT_LISTING;
 use reader::sizes::SHORT_ROWS;
@@ -44,10 +48,10 @@ ghost use Rattle.model.specs.Run as Run;
 ghost use Rattle.model.specs.Run.{sizeFits};
 ghost use Rattle.reader.specs.Points.{Placed, AllPlaced, Holds, pointIn, pointsIn};
 ghost use Rattle.checker.specs.Judged.{Held};
-ghost use Rattle.runner.specs.Runs.{state, outcome, Gathered, RunByValue, RunInPlace};
+ghost use Rattle.runner.specs.Runs.{state, outcome, Gathered, CodeRoom, RunByValue, RunInPlace};
 
-// A listing of at most so many points has little code, so that its call does not pay for the longest.
-const FEW_POINTS: usize = 64;
+// The code of the longest listing: a row for each point.
+const ALL_CODE: usize = GREATEST_POINTS * ROW_NUMBERS;
 
 // What a run in place hands back besides the state.
 pub struct Ending {
@@ -183,6 +187,7 @@ fn run_passed<'a>(
     rows: &'a [u64],
     at: &'a [u16],
     count: usize,
+    code: &mut [u64],
     start: usize,
     registers: [u32; REGISTERS],
     trays: &[u8],
@@ -191,34 +196,19 @@ fn run_passed<'a>(
 ) -> Outcome
     requires { ⌜ Held (now listing) (now rows) (now at) count ⌝ }
     requires { ⌜ listingJudged (listingOf (now listing)) ≡ Accepted ⌝ }
+    requires { ⌜ count * 8 ≤ length (now code) ⌝ }
     ensures { λ r. ⌜ RunByValue (Run.run (now (listing .entry)) (state start registers) (lent (now (trays .entry)) (now (results .entry))) budget) r (now (results .exit)) ⌝ }
 {
     let sizes = [trays.len(), results.len()];
     if let Judgement::Refused(r) = state_judged(rows, at, count, start, registers, sizes) {
         return turned_back(start, registers, r);
     }
-    if count <= FEW_POINTS {
-        let mut code = [0u64; FEW_POINTS * ROW_NUMBERS];
-        return run_from(
-            listing,
-            rows,
-            at,
-            count,
-            &mut code,
-            start,
-            registers,
-            trays,
-            results,
-            budget,
-        );
-    }
-    let mut code = [0u64; GREATEST_POINTS * ROW_NUMBERS];
     run_from(
         listing,
         rows,
         at,
         count,
-        &mut code,
+        code,
         start,
         registers,
         trays,
@@ -238,10 +228,11 @@ fn turned_back(point: usize, registers: [u32; REGISTERS], r: Refusal) -> Outcome
     }
 }
 
-// A run, with rows that are lent for the lines.
+// A run, with rows that are lent for the lines and code for the points.
 fn run_in(
     listing: &[u8],
     rows: &mut [u64],
+    code: &mut [u64],
     start: usize,
     registers: [u32; REGISTERS],
     trays: &[u8],
@@ -249,6 +240,7 @@ fn run_in(
     budget: u32,
 ) -> Outcome
     requires { ⌜ (length (now listing) ≤ greatestListing → length (now listing) / lineBytes * 8 ≤ length (now rows)) ⌝ }
+    requires { ⌜ CodeRoom (length (now listing)) (now code) ⌝ }
     ensures { λ r. ⌜ RunByValue (Run.run (now (listing .entry)) (state start registers) (lent (now (trays .entry)) (now (results .entry))) budget) r (now (results .exit)) ⌝ }
 {
     let mut at = [0u16; PLACE_NUMBERS];
@@ -263,6 +255,7 @@ fn run_in(
                 rows,
                 &at,
                 count,
+                code,
                 start,
                 registers,
                 trays,
@@ -273,19 +266,40 @@ fn run_in(
     }
 }
 
-// A run of a listing from a state over both tables, with a budget of steps. It repeats 1 to 14, then tests 15 to 17.
-// A run that is turned back hands back the state as it was with 0 steps, and leaves every byte of the results.
-// A short listing has few rows, so that its call does not pay for the longest.
-pub fn run(listing: &[u8], state: State, trays: &[u8], results: &mut [u8], budget: u32) -> Outcome
-    ensures { λ r. ⌜ RunByValue (Run.run (now (listing .entry)) state (lent (now (trays .entry)) (now (results .entry))) budget) r (now (results .exit)) ⌝ }
+// A run of a listing of more than few lines, with code that is lent for its points. It stays a function of its own: its rows take a large part of the stack,
+// which a run of few lines does not touch.
+fn run_many(
+    listing: &[u8],
+    code: &mut [u64],
+    start: usize,
+    registers: [u32; REGISTERS],
+    trays: &[u8],
+    results: &mut [u8],
+    budget: u32,
+) -> Outcome
+    requires { ⌜ CodeRoom (length (now listing)) (now code) ⌝ }
+    ensures { λ r. ⌜ RunByValue (Run.run (now (listing .entry)) (state start registers) (lent (now (trays .entry)) (now (results .entry))) budget) r (now (results .exit)) ⌝ }
 {
-    let registers = state.registers;
     if listing.len() <= SHORT_LISTING {
         let mut rows = [0u64; SHORT_ROWS];
         return run_in(
             listing,
             &mut rows,
-            state.point,
+            code,
+            start,
+            registers,
+            trays,
+            results,
+            budget,
+        );
+    }
+    if listing.len() <= LONG_LISTING {
+        let mut rows = [0u64; LONG_ROWS];
+        return run_in(
+            listing,
+            &mut rows,
+            code,
+            start,
             registers,
             trays,
             results,
@@ -296,12 +310,43 @@ pub fn run(listing: &[u8], state: State, trays: &[u8], results: &mut [u8], budge
     run_in(
         listing,
         &mut rows,
-        state.point,
+        code,
+        start,
         registers,
         trays,
         results,
         budget,
     )
+}
+
+// A run of a listing from a state over both tables, with a budget of steps. It repeats 1 to 14, then tests 15 to 17.
+// A run that is turned back hands back the state as it was with 0 steps, and leaves every byte of the results.
+// A listing of few lines has few rows and little code, so that its call does not pay for the longest.
+pub fn run(listing: &[u8], state: State, trays: &[u8], results: &mut [u8], budget: u32) -> Outcome
+    ensures { λ r. ⌜ RunByValue (Run.run (now (listing .entry)) state (lent (now (trays .entry)) (now (results .entry))) budget) r (now (results .exit)) ⌝ }
+{
+    let point = state.point;
+    let registers = state.registers;
+    if listing.len() <= FEW_LISTING {
+        let mut rows = [0u64; FEW_ROWS];
+        let mut code = [0u64; FEW_ROWS];
+        return run_in(
+            listing,
+            &mut rows,
+            &mut code,
+            point,
+            registers,
+            trays,
+            results,
+            budget,
+        );
+    }
+    if listing.len() <= SHORT_LISTING {
+        let mut code = [0u64; SHORT_ROWS];
+        return run_many(listing, &mut code, point, registers, trays, results, budget);
+    }
+    let mut code = [0u64; ALL_CODE];
+    run_many(listing, &mut code, point, registers, trays, results, budget)
 }
 
 // The same run on a lent state, which it changes in place.

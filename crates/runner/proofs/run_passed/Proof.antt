@@ -7,7 +7,7 @@ use Rattle.runner.proofs.run_passed.Statement.{statement}
 use Rattle.runner.proofs.run_passed.Tie as tie
 
 state-judged-requires : tie.Need-state-judged-requires
-state-judged-requires c κs = c .before .before .before .before .before .pre .0 .holds
+state-judged-requires c κs = c .before .before .before .before .before .before .pre .0 .holds
 
 enum-known-r : tie.Need-enum-known-r
 enum-known-r c = search needs
@@ -17,41 +17,26 @@ turned-back-requires c κs = search needs
 
 returns : tie.Need-returns
 returns c =
-    let s = c .before .before .before .before .before .before .before .before .before .before in
-    let r = state-refused (s .args .listing .now) (state (s .args .start) (s .args .registers)) (lent (s .args .trays .now) (s .args .results .now)) (s .args .budget) (s .pre .1) _ (sym (c .before .before .before .before .state-judged .ensures ∙ state-held _ _ _ _ (s .pre .0) _ _) ∙ c .before .before .r .given .1) in
+    let s = c .before .before .before .before .before .before .before .before .before .before .before in
+    let r = state-refused (s .args .listing .now) (state (s .args .start) (s .args .registers)) (lent (s .args .trays .now) (s .args .results .now)) (s .args .budget) (s .pre .1 .0) _ (sym (c .before .before .before .before .state-judged .ensures ∙ state-held _ _ _ _ (s .pre .0) _ _) ∙ c .before .before .r .given .1) in
     record { outcome = c .turned-back .ensures ∙ r .outcome; results = r .results }
 
 enum-told : tie.Need-enum-told
 enum-told c = search needs
 
-slice-aggregate-run-from : tie.Need-slice-aggregate-run-from
-slice-aggregate-run-from c = search needs
-
 run-from-requires : tie.Need-run-from-requires
 run-from-requires c κs =
-    let s = c .before .before .before .before .before .before .before .before .before .before .before in
-    (s .pre .0, (s .pre .1, (sym (c .before .before .before .before .before .state-judged .ensures ∙ state-held _ _ _ _ (s .pre .0) _ _) ∙ c .before .before .before .enum-told .given .1, search needs)))
+    let p = c .before .before .before .before .before .before .before .before .before .before .before .pre in
+    (p .0, (p .1 .0, (sym (c .before .before .before .before .state-judged .ensures ∙ state-held _ _ _ _ (p .0) _ _) ∙ c .before .before .enum-told .given .1, p .1 .1)))
 
 same-length : tie.Need-same-length
 same-length c = search needs
 
-returns-2 : tie.Need-returns-2
-returns-2 c = search needs
-
-slice-aggregate-run-from-2 : tie.Need-slice-aggregate-run-from-2
-slice-aggregate-run-from-2 c = search needs
-
-run-from-requires-2 : tie.Need-run-from-requires-2
-run-from-requires-2 c κs =
-    let s = c .before .before .before .before .before .before .before .before .before .before .before in
-    let few = s .pre .0 .holds .all .few in
-    (s .pre .0, (s .pre .1, (sym (c .before .before .before .before .before .state-judged .ensures ∙ state-held _ _ _ _ (s .pre .0) _ _) ∙ c .before .before .before .enum-told .given .1, search needs)))
-
 same-length-2 : tie.Need-same-length-2
 same-length-2 c = search needs
 
-returns-3 : tie.Need-returns-3
-returns-3 c = search needs
+returns-2 : tie.Need-returns-2
+returns-2 c = search needs
 
 pub run-passed-spec : {M : Type 1} → statement M
 run-passed-spec =
@@ -62,11 +47,7 @@ run-passed-spec =
     turned-back-requires
     returns
     enum-told
-    slice-aggregate-run-from
     run-from-requires
     same-length
-    returns-2
-    slice-aggregate-run-from-2
-    run-from-requires-2
     same-length-2
-    returns-3)
+    returns-2)
