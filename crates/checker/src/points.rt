@@ -29,7 +29,7 @@ fn is_refused(j: Judgement) -> bool
     }
 }
 
-// Everything that point p of n owes, in order. The arrays are lent to be written in; an edge changes the ends, so for a second one the facts are written again.
+// Everything that point p of n owes, in order. The arrays are lent to be written in; an edge changes the ends, so before the target's the facts are written again.
 fn point_judged<'a>(
     rows: &'a [u64],
     at: &'a [u16],
