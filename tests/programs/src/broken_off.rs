@@ -13,7 +13,7 @@ use trials::runs::Call;
 const FEWEST_CALLS: u32 = 8;
 const FEWEST_WRITES: u32 = 2;
 /// Every so many calls the run that puts right is broken off too.
-const SAMPLE: u32 = 3;
+const SAMPLE: u32 = 4;
 const KILLED: i32 = 128 + 9;
 /// What the program does to files after it has opened them.
 const ORDER: [&str; 10] = [
@@ -133,7 +133,7 @@ fn broken_twice() -> Result<(), String> {
     Ok(())
 }
 
-/// Breaks the run that puts this right at every third of its calls.
+/// Breaks the run that puts this right at a sample of its calls.
 fn broken_again(trial: &Trial, left: &Entries, how: How, whose: Whose, first: u32) -> Result<(), String> {
     for at in (0..).map(|n| 1 + first + n * SAMPLE) {
         restore(&trial.folder, left);

@@ -15,8 +15,9 @@ pub const HUP: i32 = 1;
 pub const KILL: i32 = 9;
 pub const CONT: i32 = 18;
 
-/// A program that takes longer hangs.
+/// A program that takes longer hangs, or something that it started does. Its status is then this.
 const LONGEST: Duration = Duration::from_secs(20);
+const LATE: i32 = -1;
 
 extern "C" {
     fn kill(process: i32, signal: i32) -> i32;
@@ -93,10 +94,12 @@ impl Running {
             from.recv_timeout(left).map(|bytes| String::from_utf8_lossy(&bytes).into_owned())
         };
         let (output, error) = (text(&self.output), text(&self.error));
-        if output.is_err() || error.is_err() {
+        let is_late = output.is_err() || error.is_err();
+        if is_late {
             self.signal_group(KILL);
         }
         let status = self.child.wait().map_or(-1, number_of);
+        let status = if is_late { LATE } else { status };
         let late = |_| "(it did not end in time)".to_string();
         Said { output: output.unwrap_or_else(late), error: error.unwrap_or_else(late), status }
     }

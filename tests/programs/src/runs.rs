@@ -7,7 +7,7 @@ use reference::Outcome;
 use trials::runs::{all_runs, Call};
 
 /// Runs of each family that go through files, and their greatest budget.
-const RUNS_OF_EACH: usize = 12;
+const RUNS_OF_EACH: usize = 8;
 const BUDGET: u32 = 100_000;
 /// A state file has no point from here on.
 const POINTS: u64 = 512;

@@ -2,6 +2,7 @@
 
 use crate::expect::{ensure, is_answer, is_error, is_unchanged, Test};
 use crate::folder::{check_listing, Folder};
+use crate::interpose::{Breaker, How, Whose};
 use crate::process::{processes, start, until, Running, HUP, INT, KILL, TERM};
 use crate::routines::{counting, endless};
 use std::fs::{File, OpenOptions};
@@ -13,6 +14,8 @@ use trials::runs::Call;
 const SIGNALS: [i32; 3] = [TERM, INT, HUP];
 /// Time for a program that goes on to be seen.
 const A_WHILE: Duration = Duration::from_millis(100);
+/// Places after the start of a process at which the wrapper waits.
+const PLACES: u32 = 3;
 /// Time in which a signal is heard.
 const AT_ONCE: Duration = Duration::from_secs(5);
 
@@ -20,6 +23,7 @@ pub fn tests() -> Vec<Test> {
     vec![
         ("signals while a routine runs", || SIGNALS.iter().try_for_each(|signal| while_running(*signal, false))),
         ("a signal to the wrapper and the program", || while_running(INT, true)),
+        ("a signal while the program is being started", || (1..=PLACES).try_for_each(while_starting)),
         ("signals while the listing is awaited", || SIGNALS.iter().try_for_each(|signal| while_reading(*signal))),
         ("signals while a listing to check is awaited", || SIGNALS.iter().try_for_each(|s| while_checking(*s))),
     ]
@@ -56,6 +60,16 @@ fn while_running(signal: i32, to_all: bool) -> Result<(), String> {
     let call = endless();
     let folder = Folder::with(if to_all { "signals_all" } else { "signals" }, &call);
     is_ended(folder.start(call.budget), signal, to_all, "run_listing", &folder.path("listing"))?;
+    is_whole(&folder, &call)
+}
+
+/// The wrapper has started the program and is slow to go on from there.
+fn while_starting(place: u32) -> Result<(), String> {
+    let call = endless();
+    let folder = Folder::with("signals_starting", &call);
+    let mut command = folder.command(call.budget);
+    Breaker::new("signals_starting").arm(&mut command, How::Slow, Whose::Wrapper, place);
+    is_ended(start(&mut command), TERM, false, "run_listing", &folder.path("listing"))?;
     is_whole(&folder, &call)
 }
 

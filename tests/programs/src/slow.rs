@@ -8,7 +8,7 @@ use crate::routines::counting;
 use reference::{check, printed};
 
 /// Places after the start of a process at which the wrapper waits.
-const PLACES: u32 = 5;
+const PLACES: u32 = 3;
 
 pub fn tests() -> Vec<Test> {
     vec![("a slow wrapper that runs", run), ("a slow wrapper that checks", checked)]
