@@ -25,7 +25,8 @@ pub fn tests() -> Vec<Test> {
         ("a signal to the wrapper and the program", || while_running(INT, true)),
         ("a signal while the program is being started", || (1..=PLACES).try_for_each(while_starting)),
         ("signals while the listing is awaited", || SIGNALS.iter().try_for_each(|signal| while_reading(*signal))),
-        ("signals while a listing to check is awaited", || SIGNALS.iter().try_for_each(|s| while_checking(*s))),
+        ("signals while a listing to check is awaited", || SIGNALS.iter().try_for_each(|s| while_checking(*s, 0))),
+        ("a signal while the checker is being started", || (1..=PLACES).try_for_each(|at| while_checking(TERM, at))),
     ]
 }
 
@@ -93,12 +94,17 @@ fn while_reading(signal: i32) -> Result<(), String> {
     is_whole(&folder, &call)
 }
 
-fn while_checking(signal: i32) -> Result<(), String> {
-    let folder = Folder::new("signals_checking");
+/// The wrapper is slow to go on from this place after it has started the program, if it is not 0.
+fn while_checking(signal: i32, place: u32) -> Result<(), String> {
+    let folder = Folder::new(if place > 0 { "signals_checker" } else { "signals_checking" });
     let pipe = open_pipe(&folder, "pipe");
     let before = folder.entries();
-    let running = start(check_listing().arg(folder.at("pipe")));
-    is_ended(running, signal, false, "check_listing", &folder.path("pipe"))?;
+    let mut command = check_listing();
+    command.arg(folder.at("pipe"));
+    if place > 0 {
+        Breaker::new("signals_checker").arm(&mut command, How::Slow, Whose::Wrapper, place);
+    }
+    is_ended(start(&mut command), signal, false, "check_listing", &folder.path("pipe"))?;
     drop(pipe);
     is_unchanged(&folder, &before)
 }
