@@ -13,7 +13,7 @@ use Rattle.model.specs.Facts.{Facts, lo, hi}
 use Rattle.model.specs.Machine.{bytesOf, sizeVariable}
 use Rattle.model.specs.Transfer.{stripe}
 use Rattle.model.specs.Follows.{follows}
-use Rattle.domain.specs.Known.{Standing}
+use Rattle.facts.specs.Known.{Standing}
 
 -- rows of which none stands
 pub none-stand : (rows : List ℕ) (n : ℕ) → Standing rows n → Standing rows 0

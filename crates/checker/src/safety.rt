@@ -1,6 +1,6 @@
 // Refusals 12 and 13: whether the divisor or the access of a point is safe by what is known at the point itself.
 use goals::follows::goal_follows;
-use goals::sizes::STRIPE_NUMBERS;
+use facts::sizes::STRIPE_NUMBERS;
 use model::answers::Judgement;
 use model::answers::Refusal;
 use model::claims::Stripe;
@@ -25,7 +25,7 @@ ghost use Rattle.model.specs.Transfer.{operandRange, stripe};
 ghost use Rattle.model.specs.Follows.{follows};
 ghost use Rattle.model.specs.Check.{divisorSafe, accessSafe, safetyJudged};
 ghost use Rattle.model.specs.Limited.{OperandLimited, AccessLimited, Limited};
-ghost use Rattle.domain.specs.Known.{rangesOf, known, Ends, AtPoint};
+ghost use Rattle.facts.specs.Known.{rangesOf, known, Ends, AtPoint};
 
 // The bytes of an access.
 fn bytes(w: Width) -> u64

@@ -11,11 +11,11 @@ use Rattle.model.specs.declared.claims.Range.{Range}
 use Rattle.model.specs.Limits.{variables, MAX}
 use Rattle.model.specs.Transfer.{rangesAlong, stripesAlong, factsAlong}
 use Rattle.model.specs.Limited.{Limited}
-use Rattle.goals.specs.Ends.{SizedEnds}
+use Rattle.facts.specs.Ends.{SizedEnds}
 use Rattle.domain.specs.declared.ranges.Changes.{Changes}
-use Rattle.domain.specs.Known.{rangesOf, stripesOf, known, High, Ends}
+use Rattle.facts.specs.Known.{rangesOf, stripesOf, known, High, Ends}
 use Rattle.domain.specs.Changes.{Makes}
-use Rattle.domain.proofs.Held.{high-held, range-set}
+use Rattle.facts.proofs.Held.{high-held, range-set}
 use Rattle.domain.proofs.Points.{ends-even}
 use Rattle.domain.proofs.Transfers.{along-high}
 

@@ -8,14 +8,14 @@ use Rattle.model.specs.declared.claims.Stripe.{Stripe}
 use Rattle.model.specs.Limits.{greatestBound}
 use Rattle.model.specs.Lists.{kept}
 use Rattle.model.specs.Transfer.{names, dropped, shifted, boundInLimits, allShifted}
-use Rattle.goals.specs.Rows.{SizedRows, stripeAt}
+use Rattle.facts.specs.StripeRows.{SizedRows, stripeAt}
 use Rattle.domain.specs.declared.stripes.Kept.{Kept}
 use Rattle.domain.specs.declared.stripes.Kept.the-variants.{All, Without, Shifted}
 use Rattle.domain.specs.declared.stripes.Added.{Added}
 use Rattle.domain.specs.declared.stripes.Added.the-variants.{Nothing, One, Two}
-use Rattle.domain.specs.Known.{stripesOf, Small, Standing}
+use Rattle.facts.specs.Known.{stripesOf, Small, Standing}
 use Rattle.domain.specs.Plans.{keptOf, addedTo, Extends}
-use Rattle.domain.proofs.Held.{stripes-more}
+use Rattle.facts.proofs.Held.{stripes-more}
 
 -- nothing written
 pub extends-none : (rows : List ℕ) (m : ℕ) → SizedRows rows → Extends rows m rows m []

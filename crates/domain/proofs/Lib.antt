@@ -1,5 +1,4 @@
 -- Laws that belong to no one function.
-pub mod Held
 pub mod Points
 pub mod Extending
 pub mod Transfers

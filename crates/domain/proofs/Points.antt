@@ -14,12 +14,12 @@ use Rattle.model.specs.Limits.{registers, variables, MAX, greatestBound, greate
 use Rattle.model.specs.Facts.{registerRange, sizeRange, unclaimedRange, lo, hi, nonEmpty}
 use Rattle.model.proofs.Tests.{cond-cases, every-below}
 use Rattle.model.specs.Limited.{StripeLimited}
-use Rattle.goals.specs.Ends.{SizedEnds}
-use Rattle.goals.specs.Rows.{SizedRows, stripeAt, withRow}
-use Rattle.goals.specs.Laid.{Laid, Sized}
-use Rattle.goals.proofs.Written.{set-numbers, row-numbers, stripe-there, stripe-other}
-use Rattle.domain.specs.Known.{rangesOf, known, Ends, Bytes, Standing, AtPoint, AlongEdge}
-use Rattle.domain.proofs.Held.{low-held, high-held, rows-held}
+use Rattle.facts.specs.Ends.{SizedEnds}
+use Rattle.facts.specs.StripeRows.{SizedRows, stripeAt, withRow}
+use Rattle.facts.specs.Laid.{Laid, Sized}
+use Rattle.facts.proofs.Written.{set-numbers, row-numbers, stripe-there, stripe-other}
+use Rattle.facts.specs.Known.{rangesOf, known, Ends, Bytes, Standing, AtPoint, AlongEdge}
+use Rattle.facts.proofs.Held.{low-held, high-held, rows-held}
 
 -- no unclaimed range reaches above a word
 pub unclaimed-top : (v : ℕ) → unclaimedRange v .hi ≤ MAX

@@ -27,7 +27,7 @@ use Rattle.model.specs.Transfer.{nothing, operandRange, sumFits, sumRange, diff
 use Rattle.model.proofs.Tests.{cond-cases}
 use Rattle.model.proofs.Values.{div-small}
 use Rattle.model.specs.Limited.{Limited}
-use Rattle.domain.specs.Known.{High}
+use Rattle.facts.specs.Known.{High}
 use Rattle.domain.specs.Branches.{orderedRanges, matchedRanges, orderedStripes, matchedStripes}
 
 -- one range set, whose high end is a value of a register

@@ -1,4 +1,3 @@
-pub mod Known
 pub mod Changes
 pub mod Plans
 pub mod Branches

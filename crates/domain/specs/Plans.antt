@@ -5,13 +5,13 @@ use Prim.Native.Nat.{ℕ, _≤_}
 use Rattle.model.specs.declared.claims.Stripe.{Stripe}
 use Rattle.model.specs.Limits.{MAX, greatestBound}
 use Rattle.model.specs.Transfer.{dropped, allShifted}
-use Rattle.goals.specs.Rows.{SizedRows}
+use Rattle.facts.specs.StripeRows.{SizedRows}
 use Rattle.domain.specs.declared.stripes.Kept.{Kept}
 use Rattle.domain.specs.declared.stripes.Kept.the-variants.{All, Without, Shifted}
 use Rattle.domain.specs.declared.stripes.Added.{Added}
 use Rattle.domain.specs.declared.stripes.Added.the-variants.{Nothing, One, Two}
 use Rattle.domain.specs.declared.stripes.Plan.{Plan}
-use Rattle.domain.specs.Known.{stripesOf, Small}
+use Rattle.facts.specs.Known.{stripesOf, Small}
 
 -- what is kept of the stripes that stand
 abbrev pub keptOf : Kept → List Stripe → List Stripe

@@ -7,8 +7,8 @@ use crate::ranges::change;
 use crate::ranges::changes_along;
 use crate::stripes::carry_out;
 use crate::stripes::plan_along;
-use goals::rows::write_row;
-use goals::sizes::STRIPE_NUMBERS;
+use facts::stripe_rows::write_row;
+use facts::sizes::STRIPE_NUMBERS;
 use model::claims::Claim;
 use model::claims::Range;
 use model::limits::RESULTS_SIZE;
@@ -26,8 +26,8 @@ ghost use Rattle.model.specs.Facts.{withClaim, nonEmpty};
 ghost use Rattle.model.specs.Listing.{stripesAmong};
 ghost use Rattle.model.specs.Transfer.{factsAlong};
 ghost use Rattle.model.specs.Limited.{ClaimLimited, Limited};
-ghost use Rattle.goals.specs.Rows.{SizedRows};
-ghost use Rattle.domain.specs.Known.{rangesOf, known, Ends, AtPoint, AlongEdge};
+ghost use Rattle.facts.specs.StripeRows.{SizedRows};
+ghost use Rattle.facts.specs.Known.{rangesOf, known, Ends, AtPoint, AlongEdge};
 
 // Writes the ranges of a point that claims nothing: all registers have the same range, and so have both sizes.
 pub fn unclaimed<'a>(low: &'a mut [u64; VARIABLES], high: &'a mut [u64; VARIABLES])

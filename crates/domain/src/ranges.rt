@@ -19,7 +19,7 @@ ghost use Rattle.model.specs.Machine.{bytesOf};
 ghost use Rattle.model.specs.Transfer as Model;
 ghost use Rattle.model.specs.Transfer.{operandRange, operandChanged, sumFits, sumRange, differenceFits, differenceRange, productFits, productRange, quotientRange, atLeast, atMost, lessRanges, notLessRanges, equalRanges, unequalRanges, rangesAlong};
 ghost use Rattle.model.specs.Limited.{OperandLimited, Limited};
-ghost use Rattle.domain.specs.Known.{rangesOf, Word, Ends};
+ghost use Rattle.facts.specs.Known.{rangesOf, Word, Ends};
 ghost use Rattle.domain.specs.Changes.{Makes, sumAt, differenceAt, productAt, quotientAt};
 ghost use Rattle.domain.specs.Branches.{orderedRanges, matchedRanges};
 

@@ -8,9 +8,9 @@ use lib.Dec.{leb}
 use lib.ListN.{getD}
 use borrow.Author.Tests.{leb-true, leb-false}
 use Rattle.model.specs.Transfer.{apart}
-use Rattle.goals.specs.Sizes.{edgeStripes}
+use Rattle.facts.specs.Sizes.{edgeStripes}
 use Rattle.goals.specs.Links.{SizedLinks, linkAt, withLink, Added}
-use Rattle.goals.proofs.Written.{link-other, link-there}
+use Rattle.goals.proofs.LinkWritten.{link-other, link-there}
 use Rattle.goals.proofs.Best.{left-out, written}
 
 module _ (l : List ℕ) (sized : SizedLinks l) (v u p m : ℕ) where

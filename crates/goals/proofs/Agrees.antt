@@ -15,13 +15,13 @@ use Rattle.model.specs.Transfer.{stripe}
 use Rattle.model.specs.Follows as known
 use Rattle.model.specs.Follows.{covers, throughLink, claimFollows}
 use Rattle.model.specs.Limited.{StripeLimited, ClaimLimited}
-use Rattle.goals.specs.Sizes.{Small}
-use Rattle.goals.specs.Ends.{HasHighs}
-use Rattle.goals.specs.Rows.{HasRows}
+use Rattle.facts.specs.Sizes.{Small}
+use Rattle.facts.specs.Ends.{HasHighs}
+use Rattle.facts.specs.StripeRows.{HasRows}
 use Rattle.goals.specs.Links.{linkAt, Gathered}
 use Rattle.goals.specs.Goal as listed
 use Rattle.goals.specs.Goal.{byLink, bySomeLink}
-use Rattle.goals.proofs.Search.{or-left, below-same}
+use Rattle.facts.proofs.Search.{or-left, below-same}
 use Rattle.goals.proofs.Easier.{link-lasting}
 
 module _ (f : Facts) (high : List ℕ) (low x a : ℕ) (rows : List ℕ) (n : ℕ)

@@ -6,9 +6,9 @@ use native.Mathlib.Decide.{ℕ-discrete}
 use native.Mathlib.Omega.{arith}
 use Rattle.model.specs.declared.claims.Stripe.{Stripe}
 use Rattle.model.proofs.Tests.{or-cases}
-use Rattle.goals.specs.Search.{someBelow}
+use Rattle.facts.specs.Search.{someBelow}
 use Rattle.goals.specs.Links.{Better, Lasting}
-use Rattle.goals.proofs.Search.{or-left, or-right, same-tests, below-shows, below-hit}
+use Rattle.facts.proofs.Search.{or-left, or-right, same-tests, below-shows, below-hit}
 
 module _ (r : ℕ → Stripe) (s : Stripe) (p : Stripe → Bool) (lasting : Lasting p) where
   -- a link that is left out because a better one stands

@@ -11,7 +11,7 @@ use Rattle.model.specs.declared.claims.Stripe.{Stripe}
 use Rattle.model.specs.Transfer.{stripe}
 use Rattle.model.specs.Follows.{overY, overZ}
 use Rattle.model.proofs.Tests.{or-false}
-use Rattle.goals.proofs.Search.{or-none}
+use Rattle.facts.proofs.Search.{or-none}
 use Rattle.goals.proofs.Turned.{Turns}
 use Rattle.goals.specs.Goal.{replaces, byLink, bySomeLink, follows}
 

@@ -14,7 +14,7 @@ use Rattle.model.specs.Follows.{byRanges, sameSides, covers, atOnce, isLink, th
 use Rattle.model.proofs.Tests.{or-cases, and-left, and-right, and-both}
 use Rattle.goals.specs.Links.{Lasting}
 use Rattle.goals.specs.Goal.{byLink}
-use Rattle.goals.proofs.Search.{or-left, or-right, some-weaker}
+use Rattle.facts.proofs.Search.{or-left, or-right, some-weaker}
 
 -- a disjunction of conjunctions, each with its own second part carried over
 carried : (a b b' c d d' : Bool) → (b ≡ true → b' ≡ true) → (d ≡ true → d' ≡ true) → (a && b || c && d) ≡ true → (a && b' || c && d') ≡ true

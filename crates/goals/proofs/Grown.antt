@@ -11,10 +11,10 @@ use Rattle.model.specs.Limits.{blankVariable}
 use Rattle.model.specs.Transfer.{apart}
 use Rattle.model.specs.Follows.{isLink}
 use Rattle.model.proofs.Tests.{and-left, and-right}
-use Rattle.goals.specs.Search.{someBelow}
-use Rattle.goals.specs.Rows.{stripeAt}
+use Rattle.facts.specs.Search.{someBelow}
+use Rattle.facts.specs.StripeRows.{stripeAt}
 use Rattle.goals.specs.Links.{linkAt, Added, Grown, Gathered}
-use Rattle.goals.proofs.Search.{or-none}
+use Rattle.facts.proofs.Search.{or-none}
 
 -- a stripe that is no link
 pub grown-passed : (l : List ℕ) (k : ℕ) (s : Stripe) → isLink s ≡ false → Grown l k l k s

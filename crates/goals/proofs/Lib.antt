@@ -1,8 +1,7 @@
 -- Laws that belong to no one function.
-pub mod Search
 pub mod Easier
 pub mod Agrees
-pub mod Written
+pub mod LinkWritten
 pub mod Best
 pub mod Added
 pub mod Grown

@@ -9,10 +9,10 @@ use lib.ListN.{getD}
 use Rattle.model.specs.declared.claims.Stripe.{Stripe}
 use Rattle.model.specs.Transfer.{stripe}
 use Rattle.model.specs.Follows.{covers}
-use Rattle.goals.specs.Rows.{stripeAt}
+use Rattle.facts.specs.StripeRows.{stripeAt}
 use Rattle.goals.specs.Links.{linkAt}
 use Rattle.goals.specs.Goal.{atOnce, byLink, bySomeLink, follows}
-use Rattle.goals.proofs.Search.{below-same}
+use Rattle.facts.proofs.Search.{below-same}
 
 or-comm : (a b : Bool) → (a || b) ≡ (b || a)
 or-comm true true = refl

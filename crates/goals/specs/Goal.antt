@@ -8,10 +8,10 @@ use lib.Dec.{leb, eqb}
 use Rattle.model.specs.declared.claims.Stripe.{Stripe}
 use Rattle.model.specs.Limits.{MAX}
 use Rattle.model.specs.Follows.{covers, overY, overZ}
-use Rattle.goals.specs.Sizes.{edgeStripes}
-use Rattle.goals.specs.Search.{someBelow}
-use Rattle.goals.specs.Ends.{SizedEnds}
-use Rattle.goals.specs.Rows.{SizedRows, stripeAt}
+use Rattle.facts.specs.Sizes.{edgeStripes}
+use Rattle.facts.specs.Search.{someBelow}
+use Rattle.facts.specs.Ends.{SizedEnds}
+use Rattle.facts.specs.StripeRows.{SizedRows, stripeAt}
 use Rattle.goals.specs.Links.{SizedLinks, linkAt}
 
 -- the ends alone show the goal

@@ -8,9 +8,9 @@ use lib.ListN.{getD, set}
 use Rattle.model.specs.declared.claims.Stripe.{Stripe}
 use Rattle.model.specs.Transfer.{apart}
 use Rattle.model.specs.Follows.{isLink}
-use Rattle.goals.specs.Sizes.{greatestPart, edgeStripes, Numbers}
-use Rattle.goals.specs.Search.{someBelow}
-use Rattle.goals.specs.Rows.{stripeAt}
+use Rattle.facts.specs.Sizes.{greatestPart, edgeStripes, Numbers}
+use Rattle.facts.specs.Search.{someBelow}
+use Rattle.facts.specs.StripeRows.{stripeAt}
 
 -- a list of links
 abbrev pub SizedLinks : List ℕ → Type 0

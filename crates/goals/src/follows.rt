@@ -1,11 +1,11 @@
 // Whether a goal, or a claim, follows from the facts that the arrays hold.
-use crate::ends::end_of;
+use facts::ends::end_of;
 use crate::links::gather;
 use crate::links::touches;
-use crate::rows::stands;
-use crate::rows::wide;
-use crate::sizes::LINK_NUMBERS;
-use crate::sizes::STRIPE_NUMBERS;
+use crate::standing::stands;
+use facts::stripe_rows::wide;
+use crate::links::LINK_NUMBERS;
+use facts::sizes::STRIPE_NUMBERS;
 use model::claims::Claim;
 use model::claims::Stripe;
 use model::limits::GREATEST_LINKS;
@@ -18,10 +18,10 @@ ghost use Rattle.model.specs.Transfer.{stripe};
 ghost use Rattle.model.specs.Follows;
 ghost use Rattle.model.specs.Follows.{claimFollows};
 ghost use Rattle.model.specs.Limited.{ClaimLimited};
-ghost use Rattle.goals.specs.Sizes.{greatestPart, greatestStep, Small, Room};
-ghost use Rattle.goals.specs.Ends.{SizedEnds};
+ghost use Rattle.facts.specs.Sizes.{greatestPart, greatestStep, Small, Room};
+ghost use Rattle.facts.specs.Ends.{SizedEnds};
 ghost use Rattle.goals.specs.Links.{linkAt};
-ghost use Rattle.goals.specs.Laid.{Laid, Sized};
+ghost use Rattle.facts.specs.Laid.{Laid, Sized};
 ghost use Rattle.goals.specs.Goal.{Near, Linked, atOnce, byLink, bySomeLink};
 ghost use Rattle.goals.specs.Goal;
 

@@ -1,6 +1,6 @@
 // The links along an edge as rows of four numbers, of two between the same variables the better one.
-use crate::sizes::LINK_NUMBERS;
-use crate::sizes::STRIPE_NUMBERS;
+use facts::sizes::EDGE_STRIPES;
+use facts::sizes::STRIPE_NUMBERS;
 use model::limits::BLANK_VARIABLE;
 ghost use mathlib.Core.Path.{_≡_};
 ghost use Prim.Native.Nat.{_+_, _*_, _≤_, _<_};
@@ -8,10 +8,13 @@ ghost use lib.Dec.{leb};
 ghost use lib.ListN.{getD};
 ghost use Rattle.model.specs.Transfer.{apart};
 ghost use Rattle.model.specs.Follows.{isLink};
-ghost use Rattle.goals.specs.Sizes.{greatestPart, edgeStripes};
-ghost use Rattle.goals.specs.Rows.{SizedRows, stripeAt};
+ghost use Rattle.facts.specs.Sizes.{greatestPart, edgeStripes};
+ghost use Rattle.facts.specs.StripeRows.{SizedRows, stripeAt};
 ghost use Rattle.goals.specs.Links.{SizedLinks, linkAt, withLink, Added, Grown, Gathered};
 ghost use Rattle.goals.specs.Goal;
+
+// A link is a row of four numbers: v, u, and the two parts of its bound.
+pub(crate) const LINK_NUMBERS: usize = EDGE_STRIPES * 4;
 
 // Whether the i-th row is a link.
 fn is_link(rows: &[u64; STRIPE_NUMBERS], i: usize) -> bool

@@ -10,12 +10,12 @@ use Rattle.model.specs.declared.claims.Claim.{Claim}
 use Rattle.model.specs.Limits.{greatestBound}
 use Rattle.model.specs.Facts.{Facts, unclaimed, withClaim, withClaims, factsOf}
 use Rattle.model.specs.Listing.{stripesAmong}
-use Rattle.goals.specs.Sizes.{edgeStripes}
-use Rattle.goals.proofs.Written.{zeros}
+use Rattle.facts.specs.Sizes.{edgeStripes}
+use Rattle.facts.proofs.Written.{zeros}
 use Rattle.decoded.specs.Rows.{rowAt}
 use Rattle.decoded.specs.Decoded.{claimFrom, claimsFrom}
 use Rattle.decoded.proofs.Claims.{claims-none, claims-next}
-use Rattle.domain.specs.Known.{rangesOf, stripesOf, known, Standing}
+use Rattle.facts.specs.Known.{rangesOf, stripesOf, known, Standing}
 use Rattle.reader.proofs.Scanning.{stripes-cons}
 
 stripes-append : (xs ys : List Claim) → stripesAmong (xs ++ ys) ≡ stripesAmong xs + stripesAmong ys

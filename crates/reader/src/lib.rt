@@ -1,6 +1,6 @@
 // From a lent listing to its points: refusals 1 to 11, and the claim lines of a point.
 pub mod claims;
-pub mod facts;
+pub mod point_facts;
 pub mod listing;
 pub mod places;
 pub mod read;

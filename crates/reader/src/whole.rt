@@ -1,12 +1,12 @@
 // The tests over the whole listing: refusals 7 to 11.
-use crate::facts::facts_at;
+use crate::point_facts::facts_at;
 use crate::places::line_of;
 use crate::places::row_of;
 use crate::scan::Scan;
 use decoded::decode::has_target;
 use decoded::decode::instruction_from;
 use decoded::rows::Row;
-use goals::sizes::STRIPE_NUMBERS;
+use facts::sizes::STRIPE_NUMBERS;
 use model::answers::Judgement;
 use model::answers::Refusal;
 use model::limits::GREATEST_POINTS;

@@ -8,9 +8,9 @@ use lib.Dec.{leb}
 use Rattle.model.specs.Lists.{every}
 use Rattle.model.specs.Facts.{Facts, inRange, stripeHolds, meets}
 use Rattle.model.proofs.Lists.{every-snoc}
-use Rattle.goals.specs.Rows.{stripeAt}
-use Rattle.domain.specs.Known.{rangesOf, stripesOf, Ends}
-use Rattle.domain.proofs.Held.{range-held, stripes-more}
+use Rattle.facts.specs.StripeRows.{stripeAt}
+use Rattle.facts.specs.Known.{rangesOf, stripesOf, Ends}
+use Rattle.facts.proofs.Held.{range-held, stripes-more}
 use Rattle.domain.proofs.Points.{ends-even}
 use Rattle.runner.specs.Meets.{inOwnRange, inRanges}
 

@@ -1,5 +1,5 @@
 // Refusal 17: whether the values of all variables meet the facts of a point.
-use goals::sizes::STRIPE_NUMBERS;
+use facts::sizes::STRIPE_NUMBERS;
 use model::limits::VARIABLES;
 ghost use mathlib.Core.Path.{_≡_};
 ghost use Prim.Native.Nat.{_*_, _≤_, _<_};
@@ -8,9 +8,9 @@ ghost use Rattle.model.specs.Limits.{variables, MAX, greatestBound, greatestSca
 ghost use Rattle.model.specs.Lists.{every};
 ghost use Rattle.model.specs.Facts as Model;
 ghost use Rattle.model.specs.Facts.{valueAt, stripeHolds};
-ghost use Rattle.goals.specs.Sizes.{edgeStripes, Numbers};
-ghost use Rattle.goals.specs.Rows.{stripeAt};
-ghost use Rattle.domain.specs.Known.{rangesOf, stripesOf, known, Ends, Bytes, Standing, AtPoint};
+ghost use Rattle.facts.specs.Sizes.{edgeStripes, Numbers};
+ghost use Rattle.facts.specs.StripeRows.{stripeAt};
+ghost use Rattle.facts.specs.Known.{rangesOf, stripesOf, known, Ends, Bytes, Standing, AtPoint};
 ghost use Rattle.runner.specs.Meets.{inOwnRange, inRanges};
 
 // A value as a number that ends and bounds are added to.

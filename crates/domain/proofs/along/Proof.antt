@@ -4,7 +4,7 @@ use mathlib.Core.Path.{_∙_}
 use mathlib.Core.List.{List}
 use Rattle.model.specs.declared.claims.Range.{Range}
 use Rattle.model.specs.Transfer.{rangesAlong}
-use Rattle.domain.specs.Known.{rangesOf, stripesOf}
+use Rattle.facts.specs.Known.{rangesOf, stripesOf}
 use Rattle.domain.proofs.Edges.{low-long, ranges-written, highs-written, edge-highs, edge-known}
 use Rattle.domain.proofs.along.Statement.{statement}
 use Rattle.domain.proofs.along.Tie as tie

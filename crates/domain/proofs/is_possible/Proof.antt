@@ -4,7 +4,7 @@ use mathlib.Core.Path.{_≡_, refl, ap, sym, _∙_}
 use mathlib.Core.Bool.{Bool}
 use mathlib.Core.List.{List}
 use lib.Dec.{leb}
-use Rattle.domain.specs.Known.{rangesOf}
+use Rattle.facts.specs.Known.{rangesOf}
 use Prim.Native.Nat.{ℕ, _-_, _≤_}
 use native.Mathlib.Numerals.{add-one}
 use native.Mathlib.Omega.{arith}
@@ -12,7 +12,7 @@ use lib.ListN.{length}
 use Rattle.model.specs.Limits as Limits
 use Rattle.model.specs.Lists.{everyBelow}
 use Rattle.model.specs.Facts.{lo, hi, nonEmpty}
-use Rattle.domain.proofs.Held.{low-held, high-held}
+use Rattle.facts.proofs.Held.{low-held, high-held}
 use Rattle.domain.proofs.is_possible.Statement.{statement}
 use Rattle.domain.proofs.is_possible.Tie as tie
 

@@ -1,7 +1,7 @@
 -- A claim replaces an end or adds a stripe, and both stay within the bounds of a point. Assumes nothing.
 use borrow.Author.Needs.{needs}
 use native.Mathlib.Omega.{arith}
-use Rattle.domain.proofs.Held.{low-set, high-set, stripes-written}
+use Rattle.facts.proofs.Held.{low-set, high-set, stripes-written}
 use Rattle.domain.proofs.Points.{unclaimed-top, ends-even, standing-sized, point-low, point-high, point-row}
 use Rattle.domain.proofs.with_claim.Statement.{statement}
 use Rattle.domain.proofs.with_claim.Tie as tie

@@ -6,7 +6,7 @@ use native.Mathlib.Numerals.{add-one}
 use borrow.Author.Tests.{not-true, not-false}
 use Rattle.model.specs.Facts.{Facts}
 use Rattle.model.specs.Follows.{firstLost}
-use Rattle.goals.specs.Laid.{Laid}
+use Rattle.facts.specs.Laid.{Laid}
 use Rattle.decoded.specs.Decoded.{claimsFrom}
 use Rattle.checker.proofs.Losing.{lost-none, lost-kept, lost-first}
 use Rattle.checker.proofs.lost.lost_among.Statement.{statement}

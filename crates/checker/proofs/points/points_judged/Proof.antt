@@ -5,10 +5,10 @@ use native.Mathlib.Omega.{arith}
 use borrow.Author.Needs.{needs}
 use Rattle.model.specs.declared.answers.Judgement.the-variants.{Accepted}
 use Rattle.model.specs.Check.{pointsJudged}
-use Rattle.goals.specs.Sizes.{greatestPart, edgeStripes}
-use Rattle.goals.specs.Rows.{SizedRows}
-use Rattle.goals.proofs.Written.{zeros}
-use Rattle.domain.specs.Known.{Standing}
+use Rattle.facts.specs.Sizes.{greatestPart, edgeStripes}
+use Rattle.facts.specs.StripeRows.{SizedRows}
+use Rattle.facts.proofs.Written.{zeros}
+use Rattle.facts.specs.Known.{Standing}
 use Rattle.reader.specs.Points.{pointsIn}
 use Rattle.reader.proofs.Gathering.{none-standing}
 use Rattle.checker.proofs.Owing.{points-none, accepted-next, refused-all}

@@ -1,7 +1,7 @@
 -- The low end of a variable, or the number itself. Assumes nothing.
 use native.Mathlib.Omega.{arith}
 use borrow.Author.Needs.{needs}
-use Rattle.domain.proofs.Held.{low-held}
+use Rattle.facts.proofs.Held.{low-held}
 use Rattle.domain.proofs.Points.{ends-even}
 use Rattle.checker.proofs.safety.divisor_safe.Statement.{statement}
 use Rattle.checker.proofs.safety.divisor_safe.Tie as tie

@@ -2,7 +2,7 @@
 use mathlib.Core.Path.{_∙_}
 use native.Mathlib.Omega.{arith}
 use borrow.Author.Needs.{needs}
-use Rattle.domain.specs.Known.{known}
+use Rattle.facts.specs.Known.{known}
 use Rattle.domain.proofs.Points.{ends-even, point-sized, known-laid}
 use Rattle.checker.proofs.Laying.{access-goal}
 use Rattle.checker.proofs.safety.safe_by_goal.Statement.{statement}

@@ -2,8 +2,8 @@
 use native.Mathlib.Nat.{mul-le-mul}
 use native.Mathlib.Omega.{arith}
 use borrow.Author.Needs.{needs}
-use Rattle.domain.specs.Known.{rangesOf}
-use Rattle.domain.proofs.Held.{low-held, high-held}
+use Rattle.facts.specs.Known.{rangesOf}
+use Rattle.facts.proofs.Held.{low-held, high-held}
 use Rattle.domain.proofs.Points.{ends-even}
 use Rattle.checker.proofs.Laying.{access-ranges}
 use Rattle.checker.proofs.safety.safe_by_ranges.Statement.{statement}

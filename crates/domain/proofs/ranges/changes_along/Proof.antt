@@ -5,7 +5,7 @@ use mathlib.Core.List.{List}
 use native.Mathlib.Omega.{arith}
 use Rattle.model.specs.declared.claims.Range.{Range}
 use Rattle.model.specs.Transfer.{rangesAlong}
-use Rattle.domain.specs.Known.{rangesOf}
+use Rattle.facts.specs.Known.{rangesOf}
 use Rattle.domain.specs.Changes.{Makes}
 use Rattle.domain.proofs.Transfers.{ordered-ranges, matched-ranges}
 use Rattle.domain.proofs.ranges.changes_along.Statement.{statement}

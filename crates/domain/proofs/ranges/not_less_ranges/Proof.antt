@@ -8,8 +8,8 @@ use lib.ListN.{length}
 use Rattle.model.specs.declared.claims.Range.{Range}
 use Rattle.model.specs.Facts.{rangeOf}
 use Rattle.model.specs.Transfer.{atMost}
-use Rattle.domain.specs.Known.{rangesOf}
-use Rattle.domain.proofs.Held.{ranges-long}
+use Rattle.facts.specs.Known.{rangesOf}
+use Rattle.facts.proofs.Held.{ranges-long}
 use Rattle.domain.proofs.Points.{ends-even}
 use Rattle.domain.proofs.ranges.not_less_ranges.Statement.{statement}
 use Rattle.domain.proofs.ranges.not_less_ranges.Tie as tie

@@ -1,7 +1,7 @@
 -- A variable by its ends, a number by itself. Assumes nothing.
 use borrow.Author.Needs.{needs}
 use mathlib.Core.Path.{sym, subst}
-use Rattle.domain.specs.Known.{Word}
+use Rattle.facts.specs.Known.{Word}
 use Rattle.domain.proofs.ranges.operand_range.Statement.{statement}
 use Rattle.domain.proofs.ranges.operand_range.Tie as tie
 

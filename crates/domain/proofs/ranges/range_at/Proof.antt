@@ -2,8 +2,8 @@
 use borrow.Author.Needs.{needs}
 use mathlib.Core.Path.{sym, subst, _∙_}
 use native.Mathlib.Omega.{arith}
-use Rattle.domain.specs.Known.{Word}
-use Rattle.domain.proofs.Held.{range-held}
+use Rattle.facts.specs.Known.{Word}
+use Rattle.facts.proofs.Held.{range-held}
 use Rattle.domain.proofs.Points.{ends-even}
 use Rattle.domain.proofs.ranges.range_at.Statement.{statement}
 use Rattle.domain.proofs.ranges.range_at.Tie as tie

@@ -6,7 +6,7 @@ use lib.ListN.{set}
 use lib.Seq.{set-getD}
 use Rattle.model.specs.declared.claims.Range.{Range}
 use Rattle.model.specs.Facts.{exactly}
-use Rattle.domain.specs.Known.{rangesOf}
+use Rattle.facts.specs.Known.{rangesOf}
 use Rattle.domain.specs.Changes.{Makes}
 use Rattle.domain.proofs.ranges.unchanged.Statement.{statement}
 use Rattle.domain.proofs.ranges.unchanged.Tie as tie

@@ -3,7 +3,7 @@ use borrow.Author.Needs.{needs}
 use borrow.Author.Tests.{eq-eqb, ne-eqb}
 use mathlib.Core.List.{List}
 use Rattle.model.specs.declared.claims.Range.{Range}
-use Rattle.domain.specs.Known.{rangesOf}
+use Rattle.facts.specs.Known.{rangesOf}
 use Rattle.domain.proofs.ranges.unequal_ranges.Statement.{statement}
 use Rattle.domain.proofs.ranges.unequal_ranges.Tie as tie
 

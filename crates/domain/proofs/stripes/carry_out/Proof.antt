@@ -1,6 +1,6 @@
 -- What is added stands in front of what is kept. Assumes nothing.
 use borrow.Author.Needs.{needs}
-use Rattle.domain.specs.Known.{stripesOf}
+use Rattle.facts.specs.Known.{stripesOf}
 use Rattle.domain.specs.Plans.{keptOf}
 use Rattle.domain.proofs.Extending.{added-kept}
 use Rattle.domain.proofs.stripes.carry_out.Statement.{statement}

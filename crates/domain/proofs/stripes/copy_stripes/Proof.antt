@@ -4,7 +4,7 @@ use borrow.Author.Tests.{eq-eqb, ne-eqb}
 use mathlib.Core.Path.{sym, subst}
 use native.Mathlib.Omega.{arith}
 use Rattle.model.specs.Limits.{greatestBound}
-use Rattle.domain.specs.Known.{Small}
+use Rattle.facts.specs.Known.{Small}
 use Rattle.domain.proofs.stripes.copy_stripes.Statement.{statement}
 use Rattle.domain.proofs.stripes.copy_stripes.Tie as tie
 

@@ -5,7 +5,7 @@ use mathlib.Core.List.{List}
 use native.Mathlib.Omega.{arith}
 use Rattle.model.specs.declared.claims.Range.{Range}
 use Rattle.model.specs.Transfer.{stripesAlong}
-use Rattle.domain.specs.Known.{rangesOf}
+use Rattle.facts.specs.Known.{rangesOf}
 use Rattle.domain.proofs.Transfers.{ordered-stripes, matched-stripes}
 use Rattle.domain.proofs.stripes.plan_along.Statement.{statement}
 use Rattle.domain.proofs.stripes.plan_along.Tie as tie

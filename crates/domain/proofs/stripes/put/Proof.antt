@@ -3,8 +3,8 @@ use borrow.Author.Needs.{needs}
 use mathlib.Core.Path.{refl, ap, _∙_}
 use mathlib.Core.List.{List}
 use Prim.Native.Nat.{ℕ, _+_}
-use Rattle.domain.specs.Known.{stripesOf}
-use Rattle.domain.proofs.Held.{stripes-written}
+use Rattle.facts.specs.Known.{stripesOf}
+use Rattle.facts.proofs.Held.{stripes-written}
 use Rattle.domain.proofs.stripes.put.Statement.{statement}
 use Rattle.domain.proofs.stripes.put.Tie as tie
 

@@ -3,7 +3,7 @@ use mathlib.Core.Path.{_≡_, sym, subst}
 use Prim.Native.Nat.{ℕ, _+_, _-_, _≤_}
 use native.Mathlib.Omega.{arith}
 use Rattle.model.specs.Limits.{greatestBound}
-use Rattle.domain.specs.Known.{stripesOf, Small}
+use Rattle.facts.specs.Known.{stripesOf, Small}
 use Rattle.domain.specs.Plans.{keptOf, Extends}
 use Rattle.domain.proofs.Extending.{kept-none, kept-more, standing-small}
 use Rattle.domain.proofs.stripes.put_all.Statement.{statement}

@@ -7,7 +7,7 @@ use native.Mathlib.Omega.{arith}
 use lib.Dec.{eqb, leb}
 use Rattle.model.specs.Limits.{greatestBound, greatestScale}
 use Rattle.model.proofs.Tests.{and-left, and-right}
-use Rattle.domain.specs.Known.{Small}
+use Rattle.facts.specs.Known.{Small}
 use Rattle.domain.proofs.stripes.scaled_stripes.Statement.{statement}
 use Rattle.domain.proofs.stripes.scaled_stripes.Tie as tie
 

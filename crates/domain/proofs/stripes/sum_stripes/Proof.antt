@@ -3,7 +3,7 @@ use borrow.Author.Needs.{needs}
 use mathlib.Core.Path.{sym, subst}
 use native.Mathlib.Omega.{arith}
 use Rattle.model.specs.Limits.{greatestBound}
-use Rattle.domain.specs.Known.{Small}
+use Rattle.facts.specs.Known.{Small}
 use Rattle.domain.proofs.stripes.sum_stripes.Statement.{statement}
 use Rattle.domain.proofs.stripes.sum_stripes.Tie as tie
 

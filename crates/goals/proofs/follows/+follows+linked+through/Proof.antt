@@ -13,7 +13,7 @@ use Rattle.model.specs.Transfer.{stripe as goal}
 use Rattle.goals.specs.Links.{linkAt}
 use Rattle.goals.specs.Goal as listed
 use Rattle.goals.specs.Goal.{atOnce, byLink, bySomeLink}
-use Rattle.goals.proofs.Search.{below-hit, below-none, below-miss}
+use Rattle.facts.proofs.Search.{below-hit, below-none, below-miss}
 use Rattle.goals.proofs.Turned.{once-turned, follows-turned}
 use Rattle.goals.proofs.Cases as cases
 use Rattle.goals.proofs.follows.follows.Reads as follows

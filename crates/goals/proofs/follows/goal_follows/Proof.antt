@@ -3,8 +3,8 @@ use native.Mathlib.Omega.{arith}
 use mathlib.Core.Path.{sym, ap, _∙_}
 use Rattle.model.specs.Limits.{greatestLinks}
 use Rattle.model.specs.Facts.{lo}
-use Rattle.goals.specs.Sizes.{greatestPart}
-use Rattle.goals.proofs.Written.{zeros}
+use Rattle.facts.specs.Sizes.{greatestPart}
+use Rattle.facts.proofs.Written.{zeros}
 use Rattle.goals.proofs.Agrees.{once-enough, follows-agrees, together}
 use borrow.Author.Needs.{needs}
 use Rattle.goals.proofs.follows.goal_follows.Statement.{statement}

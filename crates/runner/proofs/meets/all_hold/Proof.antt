@@ -3,7 +3,7 @@ use mathlib.Core.Path.{_≡_}
 use native.Mathlib.Omega.{arith}
 use Rattle.model.specs.Facts.{stripeHolds}
 use Rattle.model.specs.Lists.{every}
-use Rattle.domain.specs.Known.{stripesOf}
+use Rattle.facts.specs.Known.{stripesOf}
 use Rattle.runner.proofs.Meeting.{every-none, every-more}
 use Rattle.runner.proofs.meets.all_hold.Statement.{statement}
 use Rattle.runner.proofs.meets.all_hold.Tie as tie

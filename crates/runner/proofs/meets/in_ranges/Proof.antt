@@ -4,7 +4,7 @@ use native.Mathlib.Numerals.{add-one}
 use native.Mathlib.Omega.{arith}
 use Rattle.model.specs.Limits as Limits
 use Rattle.model.specs.Lists.{everyBelow}
-use Rattle.domain.specs.Known.{rangesOf}
+use Rattle.facts.specs.Known.{rangesOf}
 use Rattle.runner.specs.Meets.{inOwnRange, inRanges}
 use Rattle.runner.proofs.meets.in_ranges.Statement.{statement}
 use Rattle.runner.proofs.meets.in_ranges.Tie as tie

@@ -1,5 +1,5 @@
 use mathlib.Core.Path.{sym, _∙_}
-use Rattle.domain.specs.Known.{known}
+use Rattle.facts.specs.Known.{known}
 use Rattle.runner.proofs.Meeting.{ranges-met, ranges-left}
 use Rattle.runner.proofs.meets.meets.Statement.{statement}
 use Rattle.runner.proofs.meets.meets.Tie as tie

@@ -7,11 +7,11 @@ use Prim.Native.Nat.{ℕ, _≤_, _-_}
 use Rattle.model.specs.declared.claims.Stripe.{Stripe}
 use Rattle.model.specs.Transfer.{stripe}
 use Rattle.model.specs.Follows.{covers}
-use Rattle.goals.specs.Rows.{stripeAt}
+use Rattle.facts.specs.StripeRows.{stripeAt}
 use Rattle.goals.specs.Goal.{stands}
-use Rattle.goals.proofs.Search.{below-hit, below-none, below-miss}
-use Rattle.goals.proofs.rows.stands.Statement.{statement}
-use Rattle.goals.proofs.rows.stands.Tie as tie
+use Rattle.facts.proofs.Search.{below-hit, below-none, below-miss}
+use Rattle.goals.proofs.standing.stands.Statement.{statement}
+use Rattle.goals.proofs.standing.stands.Tie as tie
 
 abbrev Inv-loop : tie.InvT-loop
 Inv-loop rows count x a y z plus minus i₀ i = (i ≤ count) × (stands rows i (stripe x a y z plus minus) ≡ false)

@@ -1,10 +1,10 @@
 -- The six numbers are those of the stripe. Assumes nothing.
 use native.Mathlib.Omega.{arith}
 use mathlib.Core.Path.{refl}
-use Rattle.goals.proofs.Written.{row-sized}
+use Rattle.facts.proofs.Written.{row-sized}
 use borrow.Author.Needs.{needs}
-use Rattle.goals.proofs.rows.write_row.Statement.{statement}
-use Rattle.goals.proofs.rows.write_row.Tie as tie
+use Rattle.facts.proofs.stripe_rows.write_row.Statement.{statement}
+use Rattle.facts.proofs.stripe_rows.write_row.Tie as tie
 
 wide-requires : tie.Need-wide-requires
 wide-requires c κs = search needs

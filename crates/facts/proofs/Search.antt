@@ -8,7 +8,7 @@ use native.Mathlib.Decide.{decLt}
 use native.Mathlib.Omega.{arith}
 use Rattle.model.specs.Lists.{some}
 use Rattle.model.proofs.Tests.{or-cases}
-use Rattle.goals.specs.Search.{someBelow}
+use Rattle.facts.specs.Search.{someBelow}
 
 pub or-left : (a b : Bool) → a ≡ true → (a || b) ≡ true
 or-left a b e = ap (λ (t : Bool). t || b) e

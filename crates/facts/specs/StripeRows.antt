@@ -6,8 +6,8 @@ use mathlib.Core.List.{List}
 use lib.ListN.{getD, set}
 use Rattle.model.specs.declared.claims.Stripe.{Stripe}
 use Rattle.model.specs.Lists.{some}
-use Rattle.goals.specs.Sizes.{greatestPart, edgeStripes, Numbers}
-use Rattle.goals.specs.Search.{someBelow}
+use Rattle.facts.specs.Sizes.{greatestPart, edgeStripes, Numbers}
+use Rattle.facts.specs.Search.{someBelow}
 
 -- a list of rows
 abbrev pub SizedRows : List ℕ → Type 0

@@ -1,39 +1,13 @@
-// The stripes along an edge as rows of six numbers.
-use crate::sizes::STRIPE_NUMBERS;
+// Whether a stripe that stands along an edge shows a goal.
+use facts::sizes::STRIPE_NUMBERS;
 use model::claims::Stripe;
 ghost use mathlib.Core.Path.{_≡_};
 ghost use Prim.Native.Nat.{_≤_, _<_};
 ghost use Rattle.model.specs.Follows;
 ghost use Rattle.model.specs.Transfer.{stripe};
-ghost use Rattle.goals.specs.Sizes.{edgeStripes, Small, Room};
-ghost use Rattle.goals.specs.Rows.{SizedRows, stripeAt, withRow};
+ghost use Rattle.facts.specs.Sizes.{edgeStripes, Small, Room};
+ghost use Rattle.facts.specs.StripeRows.{SizedRows, stripeAt, withRow};
 ghost use Rattle.goals.specs.Goal;
-
-// A byte as a number of 64 bits.
-pub fn wide(v: u8) -> u64
-    ensures { λ r. ⌜ (r ≡ v) × (r < 256) ⌝ }
-{
-    v as u64
-}
-
-// Writes the i-th row.
-pub fn write_row(rows: &mut [u64; STRIPE_NUMBERS], i: usize, s: Stripe)
-    requires { ⌜ SizedRows (now rows) ⌝ }
-    requires { ⌜ (i < edgeStripes) × Small s ⌝ }
-    ensures { λ r. ⌜ (now (rows .exit) ≡ withRow (now (rows .entry)) i s) × SizedRows (now (rows .exit)) ⌝ }
-{
-    let x = wide(s.x);
-    let a = wide(s.a);
-    let y = wide(s.y);
-    let z = wide(s.z);
-    let at = i * 6;
-    rows[at] = x;
-    rows[at + 1] = a;
-    rows[at + 2] = y;
-    rows[at + 3] = z;
-    rows[at + 4] = s.plus;
-    rows[at + 5] = s.minus;
-}
 
 // Whether the i-th row stands for the goal.
 fn covers(

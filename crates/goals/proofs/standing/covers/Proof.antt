@@ -5,8 +5,8 @@ use Prim.Native.Nat.{_+_, _*_}
 use lib.ListN.{getD}
 use borrow.Author.Tests.{eq-eqb, ne-eqb}
 use borrow.Author.Needs.{needs}
-use Rattle.goals.proofs.rows.covers.Statement.{statement}
-use Rattle.goals.proofs.rows.covers.Tie as tie
+use Rattle.goals.proofs.standing.covers.Statement.{statement}
+use Rattle.goals.proofs.standing.covers.Tie as tie
 
 mul-at : tie.Need-mul-at
 mul-at c = search needs

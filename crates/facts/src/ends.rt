@@ -4,10 +4,10 @@ ghost use mathlib.Core.Path.{_≡_};
 ghost use Prim.Native.Nat.{_≤_};
 ghost use lib.ListN.{getD};
 ghost use Rattle.model.specs.Limits.{MAX};
-ghost use Rattle.goals.specs.Ends.{SizedEnds};
+ghost use Rattle.facts.specs.Ends.{SizedEnds};
 
 // The end of a variable; of the blank variable, 0.
-pub(crate) fn end_of(ends: &[u64; VARIABLES], v: usize) -> u64
+pub fn end_of(ends: &[u64; VARIABLES], v: usize) -> u64
     requires { ⌜ SizedEnds (now ends) ⌝ }
     ensures { λ r. ⌜ (r ≡ getD (now (ends .entry)) v 0) × (r ≤ MAX) ⌝ }
 {

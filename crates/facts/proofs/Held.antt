@@ -10,13 +10,13 @@ use lib.Seq.{set-getD}
 use Rattle.model.specs.declared.claims.Range.{Range}
 use Rattle.model.specs.declared.claims.Stripe.{Stripe}
 use Rattle.model.specs.Facts.{between, rangeOf, lo, hi}
-use Rattle.goals.specs.Sizes.{edgeStripes}
-use Rattle.goals.specs.Search.{someBelow}
-use Rattle.goals.specs.Rows.{SizedRows, stripeAt, withRow, HasRows}
-use Rattle.goals.proofs.Search.{some-last}
-use Rattle.goals.proofs.Written.{stripe-there, stripe-other}
+use Rattle.facts.specs.Sizes.{edgeStripes}
+use Rattle.facts.specs.Search.{someBelow}
+use Rattle.facts.specs.StripeRows.{SizedRows, stripeAt, withRow, HasRows}
+use Rattle.facts.proofs.Search.{some-last}
+use Rattle.facts.proofs.Written.{stripe-there, stripe-other}
 use Rattle.model.specs.Lists.{some}
-use Rattle.domain.specs.Known.{rangesOf, stripesOf}
+use Rattle.facts.specs.Known.{rangesOf, stripesOf}
 
 -- the range of a variable has the ends that the lists hold there
 pub range-held : (ls hs : List ℕ) (v : ℕ) → length ls ≡ length hs → rangeOf (rangesOf ls hs) v ≡ between (getD ls v 0) (getD hs v 0)

@@ -2,12 +2,12 @@
 use crate::places::claims_of;
 use crate::places::first_of;
 use decoded::decode::claim_at;
-use goals::sizes::STRIPE_NUMBERS;
+use facts::sizes::STRIPE_NUMBERS;
 use model::limits::VARIABLES;
 ghost use mathlib.Core.Path.{_≡_};
 ghost use Rattle.model.specs.Facts.{factsOf};
 ghost use Rattle.decoded.specs.Decoded.{claimsFrom};
-ghost use Rattle.domain.specs.Known.{known, Standing, AtPoint};
+ghost use Rattle.facts.specs.Known.{known, Standing, AtPoint};
 ghost use Rattle.reader.specs.Points.{ClaimRows, Placed, pointIn};
 
 // The facts that n rows from row from on state. The answer is how many stripes there are.

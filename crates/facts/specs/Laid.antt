@@ -2,9 +2,9 @@
 use Prim.Native.Nat.{ℕ, _≤_}
 use mathlib.Core.List.{List}
 use Rattle.model.specs.Facts.{Facts}
-use Rattle.goals.specs.Sizes.{edgeStripes}
-use Rattle.goals.specs.Ends.{SizedEnds, HasHighs, HasLows}
-use Rattle.goals.specs.Rows.{SizedRows, HasRows}
+use Rattle.facts.specs.Sizes.{edgeStripes}
+use Rattle.facts.specs.Ends.{SizedEnds, HasHighs, HasLows}
+use Rattle.facts.specs.StripeRows.{SizedRows, HasRows}
 
 -- high ends, low ends and n rows hold the facts
 pub record Laid (high low rows : List ℕ) (n : ℕ) (f : Facts) : Type 0 where

@@ -1,7 +1,7 @@
 -- The rows of the claims are those before the point's line. Assumes nothing.
 use borrow.Author.Needs.{needs}
-use Rattle.reader.proofs.facts.facts_at.Statement.{statement}
-use Rattle.reader.proofs.facts.facts_at.Tie as tie
+use Rattle.reader.proofs.point_facts.facts_at.Statement.{statement}
+use Rattle.reader.proofs.point_facts.facts_at.Tie as tie
 
 first-of-requires : tie.Need-first-of-requires
 first-of-requires c κs = search needs

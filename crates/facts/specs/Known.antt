@@ -8,9 +8,9 @@ use Rattle.model.specs.declared.claims.Range.{Range}
 use Rattle.model.specs.declared.claims.Stripe.{Stripe}
 use Rattle.model.specs.Limits.{variables, MAX, greatestBound, greatestStripes}
 use Rattle.model.specs.Facts.{Facts, between, hi}
-use Rattle.goals.specs.Sizes.{Numbers, edgeStripes}
-use Rattle.goals.specs.Ends.{SizedEnds}
-use Rattle.goals.specs.Rows.{SizedRows, stripeAt}
+use Rattle.facts.specs.Sizes.{Numbers, edgeStripes}
+use Rattle.facts.specs.Ends.{SizedEnds}
+use Rattle.facts.specs.StripeRows.{SizedRows, stripeAt}
 
 -- the ranges whose low and high ends two lists hold
 unfoldable pub rangesOf : List ℕ → List ℕ → List Range

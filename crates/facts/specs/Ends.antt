@@ -6,7 +6,7 @@ use lib.ListN.{getD}
 use Rattle.model.specs.declared.claims.Range.{Range}
 use Rattle.model.specs.Limits.{variables, MAX}
 use Rattle.model.specs.Facts.{lo, hi}
-use Rattle.goals.specs.Sizes.{Numbers}
+use Rattle.facts.specs.Sizes.{Numbers}
 
 -- a list of ends
 abbrev pub SizedEnds : List ℕ → Type 0

@@ -9,10 +9,10 @@ use Rattle.model.specs.Facts.{factsOf}
 use Rattle.model.specs.Listing.{stripesAmong}
 use Rattle.decoded.specs.Decoded.{claimsFrom}
 use Rattle.decoded.proofs.Claims.{claims-none}
-use Rattle.domain.specs.Known.{known, AtPoint}
+use Rattle.facts.specs.Known.{known, AtPoint}
 use Rattle.reader.proofs.Gathering.{facts-start, facts-next, stripes-next, gather-room}
-use Rattle.reader.proofs.facts.facts_of.Statement.{statement}
-use Rattle.reader.proofs.facts.facts_of.Tie as tie
+use Rattle.reader.proofs.point_facts.facts_of.Statement.{statement}
+use Rattle.reader.proofs.point_facts.facts_of.Tie as tie
 
 abbrev Inv-loop : tie.InvT-loop
 Inv-loop rows from n low₀ high₀ stripes₀ m₀ j₀ low high stripes m j =

@@ -2,10 +2,7 @@
 use model::limits::GREATEST_STRIPES;
 
 // The stripes along an edge: those of a point, and the two that its instruction may add.
-const EDGE_STRIPES: usize = GREATEST_STRIPES + 2;
+pub const EDGE_STRIPES: usize = GREATEST_STRIPES + 2;
 
 // A stripe is a row of six numbers: x, a, y, z, and the two parts of its bound.
 pub const STRIPE_NUMBERS: usize = EDGE_STRIPES * 6;
-
-// A link is a row of four numbers: v, u, and the two parts of its bound.
-pub const LINK_NUMBERS: usize = EDGE_STRIPES * 4;

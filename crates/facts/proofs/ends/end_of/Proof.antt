@@ -3,8 +3,8 @@ use native.Mathlib.Omega.{arith}
 use mathlib.Core.Path.{refl, sym}
 use lib.ListN.{List·getD-eq-default}
 use borrow.Author.Needs.{needs}
-use Rattle.goals.proofs.ends.end_of.Statement.{statement}
-use Rattle.goals.proofs.ends.end_of.Tie as tie
+use Rattle.facts.proofs.ends.end_of.Statement.{statement}
+use Rattle.facts.proofs.ends.end_of.Tie as tie
 
 mul-result : tie.Need-mul-result
 mul-result c = search needs
