@@ -2,8 +2,8 @@
 use decoded::decode::claim_at;
 use domain::along;
 use domain::is_possible;
-use goals::follows::claim_follows;
 use facts::sizes::STRIPE_NUMBERS;
+use goals::follows::claim_follows;
 use model::answers::Judgement;
 use model::answers::Refusal;
 use model::limits::VARIABLES;
@@ -32,20 +32,20 @@ fn lost_among<'a>(
     rows: &'a [u64],
     from: usize,
     n: usize,
-    high: &'a [u64; VARIABLES],
     low: &'a [u64; VARIABLES],
+    high: &'a [u64; VARIABLES],
     stripes: &'a [u64; STRIPE_NUMBERS],
     count: usize,
 ) -> usize
     requires { ⌜ ClaimRows (now rows) from n × (from + n ≤ greatestLines) ⌝ }
-    requires { ⌜ Sized (now high) (now low) (now stripes) count ⌝ }
-    ensures { λ r. ⌜ ((f : Model.Facts) → Laid (now (high .entry)) (now (low .entry)) (now (stripes .entry)) count f → r ≡ firstLost f (from + 1) (claimsFrom (now (rows .entry)) from n)) ⌝ }
+    requires { ⌜ Sized (now low) (now high) (now stripes) count ⌝ }
+    ensures { λ r. ⌜ ((f : Model.Facts) → Laid (now (low .entry)) (now (high .entry)) (now (stripes .entry)) count f → r ≡ firstLost f (from + 1) (claimsFrom (now (rows .entry)) from n)) ⌝ }
 {
     let mut j = 0;
     while j < n {
         let k = from + j;
         let c = claim_at(rows, k);
-        if !claim_follows(high, low, stripes, count, c) {
+        if !claim_follows(low, high, stripes, count, c) {
             return k + 1;
         }
         j += 1;
@@ -88,7 +88,7 @@ pub(crate) fn edge_judged<'a>(
         return Judgement::Accepted;
     }
     let from = first_of(at, t);
-    let lost = lost_among(rows, from, n, high, low, edge_stripes, count);
+    let lost = lost_among(rows, from, n, low, high, edge_stripes, count);
     if lost == 0 {
         return Judgement::Accepted;
     }

@@ -1,6 +1,6 @@
 // Refusals 12 and 13: whether the divisor or the access of a point is safe by what is known at the point itself.
-use goals::follows::goal_follows;
 use facts::sizes::STRIPE_NUMBERS;
+use goals::follows::goal_follows;
 use model::answers::Judgement;
 use model::answers::Refusal;
 use model::claims::Stripe;
@@ -106,7 +106,7 @@ fn safe_by_goal<'a>(
         plus: k as u64 + n,
         minus: 0,
     };
-    goal_follows(high, low, stripes, m, g)
+    goal_follows(low, high, stripes, m, g)
 }
 
 // Whether the access lies inside its table.

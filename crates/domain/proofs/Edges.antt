@@ -53,8 +53,8 @@ pub edge-highs : (e : Edge) (i : Instruction) (low high : List ℕ) → Limited 
 edge-highs e i low high limits ends = along-high e i (rangesOf low high) limits (high-ends low high ends)
 
 -- ranges and stripes together
-pub edge-known : (e : Edge) (i : Instruction) (low high rows : List ℕ) (n : ℕ) (low' high' rows' : List ℕ) (r : ℕ) →
-    rangesOf low' high' ≡ rangesAlong e i (rangesOf low high) → stripesOf rows' r ≡ stripesAlong e i (rangesOf low high) (stripesOf rows n) →
-    known low' high' rows' r ≡ factsAlong e i (known low high rows n)
+pub edge-known : (e : Edge) (i : Instruction) (low high stripes : List ℕ) (n : ℕ) (low' high' stripes' : List ℕ) (r : ℕ) →
+    rangesOf low' high' ≡ rangesAlong e i (rangesOf low high) → stripesOf stripes' r ≡ stripesAlong e i (rangesOf low high) (stripesOf stripes n) →
+    known low' high' stripes' r ≡ factsAlong e i (known low high stripes n)
 unfolding factsAlong
-edge-known e i low high rows n low' high' rows' r p q = rw (p, q)
+edge-known e i low high stripes n low' high' stripes' r p q = rw (p, q)

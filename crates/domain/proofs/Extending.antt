@@ -18,8 +18,8 @@ use Rattle.domain.specs.Plans.{keptOf, addedTo, Extends}
 use Rattle.facts.proofs.Held.{stripes-more}
 
 -- nothing written
-pub extends-none : (rows : List ℕ) (m : ℕ) → SizedRows rows → Extends rows m rows m []
-extends-none rows m sized = record { same = sym (append-nil (stripesOf rows m)); sized = sized }
+pub extends-none : (stripes : List ℕ) (m : ℕ) → SizedRows stripes → Extends stripes m stripes m []
+extends-none stripes m sized = record { same = sym (append-nil (stripesOf stripes m)); sized = sized }
 
 -- written in two parts
 pub extends-both : {a b c : List ℕ} {m k r : ℕ} {ss ts : List Stripe} → Extends a m b k ss → Extends b k c r ts → Extends a m c r (ss ++ ts)
@@ -66,23 +66,23 @@ keeps-both All xs ys = refl
 keeps-both (Without d) xs ys = kept-both _ xs ys
 keeps-both (Shifted d up down) xs ys = ap (kept boundInLimits) (map-both (shifted d up down) xs ys) ∙ kept-both boundInLimits (map (shifted d up down) xs) (map (shifted d up down) ys)
 
--- of the first rows
-module _ (k : Kept) (rows : List ℕ) where
-  none-kept : keptOf k (stripesOf rows 0) ≡ []
+-- of the first stripes
+module _ (k : Kept) (stripes : List ℕ) where
+  none-kept : keptOf k (stripesOf stripes 0) ≡ []
   unfolding stripesOf kept
   none-kept = go k
     where
-      go : (k : Kept) → keptOf k (stripesOf rows 0) ≡ []
+      go : (k : Kept) → keptOf k (stripesOf stripes 0) ≡ []
       go All = refl
       go (Without d) = refl
       go (Shifted d up down) = refl
 
-  pub kept-none : (new : List ℕ) (m : ℕ) → SizedRows new → Extends new m new m (keptOf k (stripesOf rows 0))
+  pub kept-none : (new : List ℕ) (m : ℕ) → SizedRows new → Extends new m new m (keptOf k (stripesOf stripes 0))
   kept-none new m sized = rw none-kept (extends-none new m sized)
 
-  pub kept-more : {old now next : List ℕ} {m r r' : ℕ} (i : ℕ) (s : Stripe) → s ≡ stripeAt rows i → Extends old m now r (keptOf k (stripesOf rows i)) → Extends now r next r' (keptOf k (s ∷ [])) → Extends old m next r' (keptOf k (stripesOf rows (i + 1)))
+  pub kept-more : {old now next : List ℕ} {m r r' : ℕ} (i : ℕ) (s : Stripe) → s ≡ stripeAt stripes i → Extends old m now r (keptOf k (stripesOf stripes i)) → Extends now r next r' (keptOf k (s ∷ [])) → Extends old m next r' (keptOf k (stripesOf stripes (i + 1)))
   kept-more i s e done new =
-      rw (stripes-more rows i, ← e, keeps-both k (stripesOf rows i) (s ∷ [])) (extends-both done new)
+      rw (stripes-more stripes i, ← e, keeps-both k (stripesOf stripes i) (s ∷ [])) (extends-both done new)
 
 -- what is added stands in front
 front : (a : Added) (ss : List Stripe) → addedTo a [] ++ ss ≡ addedTo a ss
@@ -95,5 +95,5 @@ unfolding stripesOf
 added-kept a ss e f = f .same ∙ ap (λ (l : List Stripe). l ++ ss) (e .same) ∙ front a ss
 
 -- a row of a point has a bound within the limits
-pub standing-small : (rows : List ℕ) (n i : ℕ) → Standing rows n → i < n → Small greatestBound (stripeAt rows i)
-standing-small rows n i h l = record { plus = h .parts .most (i * 6 + 4) (omega (arith, h .few)); minus = h .parts .most (i * 6 + 5) (omega (arith, h .few)) }
+pub standing-small : (stripes : List ℕ) (n i : ℕ) → Standing stripes n → i < n → Small greatestBound (stripeAt stripes i)
+standing-small stripes n i h l = record { plus = h .parts .most (i * 6 + 4) (omega (arith, h .few)); minus = h .parts .most (i * 6 + 5) (omega (arith, h .few)) }

@@ -43,7 +43,7 @@ pub record Does (p : Plan) (f : List Stripe → List Stripe) : Type 0 where
   pub shift : ShiftLimited (p .kept)
   pub front : AddedLimited (p .added)
 
--- the first r new rows are the first m old ones and these stripes
+-- the first r new stripes are the first m old ones and these stripes
 pub record Extends (old : List ℕ) (m : ℕ) (new : List ℕ) (r : ℕ) (ss : List Stripe) : Type 0 where
   pub same : stripesOf new r ≡ stripesOf old m ++ ss
   pub sized : SizedRows new

@@ -7,8 +7,8 @@ use crate::ranges::change;
 use crate::ranges::changes_along;
 use crate::stripes::carry_out;
 use crate::stripes::plan_along;
-use facts::stripe_rows::write_row;
 use facts::sizes::STRIPE_NUMBERS;
+use facts::stripe_rows::write_row;
 use model::claims::Claim;
 use model::claims::Range;
 use model::limits::RESULTS_SIZE;
@@ -44,19 +44,19 @@ pub fn unclaimed<'a>(low: &'a mut [u64; VARIABLES], high: &'a mut [u64; VARIABLE
     high[RESULTS_SIZE] = size.hi;
 }
 
-// One claim more: a new end, or a stripe after the first n rows. The answer is how many rows there are then.
+// One claim more: a new end, or a stripe after the first n stripes. The answer is how many stripes there are then.
 pub fn with_claim<'a>(
     low: &'a mut [u64; VARIABLES],
     high: &'a mut [u64; VARIABLES],
-    rows: &'a mut [u64; STRIPE_NUMBERS],
+    stripes: &'a mut [u64; STRIPE_NUMBERS],
     n: usize,
     c: Claim,
 ) -> usize
-    requires { ⌜ AtPoint (now low) (now high) (now rows) n ⌝ }
+    requires { ⌜ AtPoint (now low) (now high) (now stripes) n ⌝ }
     requires { ⌜ ClaimLimited c ⌝ }
     requires { ⌜ n + stripesAmong (c ∷ []) ≤ greatestStripes ⌝ }
-    ensures { λ r. ⌜ known (now (low .exit)) (now (high .exit)) (now (rows .exit)) r ≡ withClaim (known (now (low .entry)) (now (high .entry)) (now (rows .entry)) n) c ⌝ }
-    ensures { λ r. ⌜ AtPoint (now (low .exit)) (now (high .exit)) (now (rows .exit)) r ⌝ }
+    ensures { λ r. ⌜ known (now (low .exit)) (now (high .exit)) (now (stripes .exit)) r ≡ withClaim (known (now (low .entry)) (now (high .entry)) (now (stripes .entry)) n) c ⌝ }
+    ensures { λ r. ⌜ AtPoint (now (low .exit)) (now (high .exit)) (now (stripes .exit)) r ⌝ }
     ensures { λ r. ⌜ r ≡ n + stripesAmong (c ∷ []) ⌝ }
 {
     match c {
@@ -69,33 +69,33 @@ pub fn with_claim<'a>(
             n
         }
         Claim::Strp(s) => {
-            write_row(rows, n, s);
+            write_row(stripes, n, s);
             n + 1
         }
     }
 }
 
-// Writes what is known along an edge of an instruction, from what is known at its point: the ends are changed where they stand, the rows are written anew.
-// The answer is how many rows there are.
+// Writes what is known along an edge of an instruction, from what is known at its point: the ends are changed where they stand, the stripes are written anew.
+// The answer is how many stripes there are.
 pub fn along<'a>(
     e: Edge,
     i: Instruction,
     low: &'a mut [u64; VARIABLES],
     high: &'a mut [u64; VARIABLES],
-    rows: &'a [u64; STRIPE_NUMBERS],
+    stripes: &'a [u64; STRIPE_NUMBERS],
     n: usize,
-    edge_rows: &'a mut [u64; STRIPE_NUMBERS],
+    edge_stripes: &'a mut [u64; STRIPE_NUMBERS],
 ) -> usize
-    requires { ⌜ AtPoint (now low) (now high) (now rows) n ⌝ }
+    requires { ⌜ AtPoint (now low) (now high) (now stripes) n ⌝ }
     requires { ⌜ Limited i ⌝ }
-    requires { ⌜ SizedRows (now «edge_rows») ⌝ }
-    ensures { λ r. ⌜ known (now (low .exit)) (now (high .exit)) (now («edge_rows» .exit)) r ≡ factsAlong e i (known (now (low .entry)) (now (high .entry)) (now (rows .entry)) n) ⌝ }
-    ensures { λ r. ⌜ AlongEdge (now (low .exit)) (now (high .exit)) (now («edge_rows» .exit)) r ⌝ }
+    requires { ⌜ SizedRows (now «edge_stripes») ⌝ }
+    ensures { λ r. ⌜ known (now (low .exit)) (now (high .exit)) (now («edge_stripes» .exit)) r ≡ factsAlong e i (known (now (low .entry)) (now (high .entry)) (now (stripes .entry)) n) ⌝ }
+    ensures { λ r. ⌜ AlongEdge (now (low .exit)) (now (high .exit)) (now («edge_stripes» .exit)) r ⌝ }
 {
     let c = changes_along(e, i, low, high);
     let p = plan_along(e, i, low, high);
     change(c, low, high);
-    carry_out(p, rows, n, edge_rows)
+    carry_out(p, stripes, n, edge_stripes)
 }
 
 // Whether no range is empty; along an edge, whether it is possible.

@@ -4,8 +4,8 @@ use crate::ranges::operand_range;
 use crate::ranges::product_fits;
 use crate::ranges::range_at;
 use crate::ranges::sum_fits;
-use facts::stripe_rows::write_row;
 use facts::sizes::STRIPE_NUMBERS;
+use facts::stripe_rows::write_row;
 use model::claims::Stripe;
 use model::limits::BLANK_VARIABLE;
 use model::limits::GREATEST_BOUND;
@@ -438,110 +438,110 @@ pub(crate) fn plan_along<'a>(
 }
 
 // The i-th row as a stripe.
-fn row_at(rows: &[u64; STRIPE_NUMBERS], i: usize) -> Stripe
-    requires { ⌜ (i < goal.edgeStripes) × Bytes (stripeAt (now rows) i) ⌝ }
-    ensures { λ s. ⌜ s ≡ stripeAt (now (rows .entry)) i ⌝ }
+fn row_at(stripes: &[u64; STRIPE_NUMBERS], i: usize) -> Stripe
+    requires { ⌜ (i < goal.edgeStripes) × Bytes (stripeAt (now stripes) i) ⌝ }
+    ensures { λ s. ⌜ s ≡ stripeAt (now (stripes .entry)) i ⌝ }
 {
     let at = i * 6;
     Stripe {
-        x: rows[at] as u8,
-        a: rows[at + 1] as u8,
-        y: rows[at + 2] as u8,
-        z: rows[at + 3] as u8,
-        plus: rows[at + 4],
-        minus: rows[at + 5],
+        x: stripes[at] as u8,
+        a: stripes[at + 1] as u8,
+        y: stripes[at + 2] as u8,
+        z: stripes[at + 3] as u8,
+        plus: stripes[at + 4],
+        minus: stripes[at + 5],
     }
 }
 
-// Writes the stripe after the first m rows, and answers how many there are then.
-fn put(rows: &mut [u64; STRIPE_NUMBERS], m: usize, s: Stripe) -> usize
-    requires { ⌜ SizedRows (now rows) ⌝ }
+// Writes the stripe after the first m stripes, and answers how many there are then.
+fn put(stripes: &mut [u64; STRIPE_NUMBERS], m: usize, s: Stripe) -> usize
+    requires { ⌜ SizedRows (now stripes) ⌝ }
     requires { ⌜ (m < goal.edgeStripes) × goal.Small s ⌝ }
-    ensures { λ r. ⌜ Extends (now (rows .entry)) m (now (rows .exit)) r (s ∷ []) × (r ≡ m + 1) ⌝ }
+    ensures { λ r. ⌜ Extends (now (stripes .entry)) m (now (stripes .exit)) r (s ∷ []) × (r ≡ m + 1) ⌝ }
 {
-    write_row(rows, m, s);
+    write_row(stripes, m, s);
     m + 1
 }
 
-// Writes what is added as the first rows, and answers how many they are.
-fn put_added(a: Added, rows: &mut [u64; STRIPE_NUMBERS]) -> usize
-    requires { ⌜ SizedRows (now rows) ⌝ }
+// Writes what is added as the first stripes, and answers how many they are.
+fn put_added(a: Added, stripes: &mut [u64; STRIPE_NUMBERS]) -> usize
+    requires { ⌜ SizedRows (now stripes) ⌝ }
     requires { ⌜ AddedLimited a ⌝ }
-    ensures { λ r. ⌜ Extends (now (rows .entry)) 0 (now (rows .exit)) r (addedTo a []) × (r ≤ 2) ⌝ }
+    ensures { λ r. ⌜ Extends (now (stripes .entry)) 0 (now (stripes .exit)) r (addedTo a []) × (r ≤ 2) ⌝ }
 {
     match a {
         Added::Nothing => 0,
-        Added::One { s } => put(rows, 0, s),
+        Added::One { s } => put(stripes, 0, s),
         Added::Two { s, t } => {
-            let m = put(rows, 0, s);
-            put(rows, m, t)
+            let m = put(stripes, 0, s);
+            put(stripes, m, t)
         }
     }
 }
 
-// Writes what is kept of a stripe after the first m rows, and answers how many there are then.
-fn put_kept(k: Kept, s: Stripe, rows: &mut [u64; STRIPE_NUMBERS], m: usize) -> usize
+// Writes what is kept of a stripe after the first m stripes, and answers how many there are then.
+fn put_kept(k: Kept, s: Stripe, stripes: &mut [u64; STRIPE_NUMBERS], m: usize) -> usize
     requires { ⌜ Small greatestBound s ⌝ }
     requires { ⌜ ShiftLimited k ⌝ }
-    requires { ⌜ SizedRows (now rows) ⌝ }
+    requires { ⌜ SizedRows (now stripes) ⌝ }
     requires { ⌜ m < goal.edgeStripes ⌝ }
-    ensures { λ r. ⌜ Extends (now (rows .entry)) m (now (rows .exit)) r (keptOf k (s ∷ [])) × (r ≤ m + 1) ⌝ }
+    ensures { λ r. ⌜ Extends (now (stripes .entry)) m (now (stripes .exit)) r (keptOf k (s ∷ [])) × (r ≤ m + 1) ⌝ }
 {
     match k {
-        Kept::All => put(rows, m, s),
+        Kept::All => put(stripes, m, s),
         Kept::Without { d } => {
             if names(s, d) {
                 return m;
             }
-            put(rows, m, s)
+            put(stripes, m, s)
         }
         Kept::Shifted { d, up, down } => {
             let t = shifted(s, d, up, down);
             if bound_in_limits(t) {
-                return put(rows, m, t);
+                return put(stripes, m, t);
             }
             m
         }
     }
 }
 
-// Writes what is kept of the first n rows after the first m new ones, and answers how many there are then.
+// Writes what is kept of the first n stripes after the first m new ones, and answers how many there are then.
 fn put_all<'a>(
     k: Kept,
-    rows: &'a [u64; STRIPE_NUMBERS],
+    stripes: &'a [u64; STRIPE_NUMBERS],
     n: usize,
     new_rows: &'a mut [u64; STRIPE_NUMBERS],
     m: usize,
 ) -> usize
     requires { ⌜ ShiftLimited k ⌝ }
-    requires { ⌜ Standing (now rows) n ⌝ }
+    requires { ⌜ Standing (now stripes) n ⌝ }
     requires { ⌜ SizedRows (now «new_rows») ⌝ }
     requires { ⌜ m ≤ 2 ⌝ }
-    ensures { λ r. ⌜ Extends (now («new_rows» .entry)) m (now («new_rows» .exit)) r (keptOf k (stripesOf (now (rows .entry)) n)) × (r ≤ goal.edgeStripes) ⌝ }
+    ensures { λ r. ⌜ Extends (now («new_rows» .entry)) m (now («new_rows» .exit)) r (keptOf k (stripesOf (now (stripes .entry)) n)) × (r ≤ goal.edgeStripes) ⌝ }
 {
     let mut r = m;
     let mut i = 0;
     while i < n {
-        r = put_kept(k, row_at(rows, i), new_rows, r);
+        r = put_kept(k, row_at(stripes, i), new_rows, r);
         i += 1;
     }
     r
 }
 
-// Carries the plan out on the first n rows, and answers how many new ones there are.
+// Carries the plan out on the first n stripes, and answers how many new ones there are.
 pub(crate) fn carry_out<'a>(
     p: Plan,
-    rows: &'a [u64; STRIPE_NUMBERS],
+    stripes: &'a [u64; STRIPE_NUMBERS],
     n: usize,
     new_rows: &'a mut [u64; STRIPE_NUMBERS],
 ) -> usize
     requires { ⌜ ShiftLimited (p .kept) × AddedLimited (p .added) ⌝ }
-    requires { ⌜ Standing (now rows) n ⌝ }
+    requires { ⌜ Standing (now stripes) n ⌝ }
     requires { ⌜ SizedRows (now «new_rows») ⌝ }
-    ensures { λ r. ⌜ (stripesOf (now («new_rows» .exit)) r ≡ addedTo (p .added) (keptOf (p .kept) (stripesOf (now (rows .entry)) n))) × SizedRows (now («new_rows» .exit)) × (r ≤ goal.edgeStripes) ⌝ }
+    ensures { λ r. ⌜ (stripesOf (now («new_rows» .exit)) r ≡ addedTo (p .added) (keptOf (p .kept) (stripesOf (now (stripes .entry)) n))) × SizedRows (now («new_rows» .exit)) × (r ≤ goal.edgeStripes) ⌝ }
 {
     let a = p.added;
     let k = p.kept;
     let m = put_added(a, new_rows);
-    put_all(k, rows, n, new_rows, m)
+    put_all(k, stripes, n, new_rows, m)
 }

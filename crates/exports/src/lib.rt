@@ -36,7 +36,7 @@ pub extern "C" fn rithwellu_print(listing: &[u8], line: &mut [u8; 40])
 pub extern "C" fn rithwellu_claim_lines(listing: &[u8], point: usize, answer: &mut [u64; 4])
     ensures { λ _. ⌜ now (answer .exit) ≡ partAnswer (claimPart (now (listing .entry)) point) ⌝ }
 {
-    *answer = part_numbers(reader::claims::claim_part(listing, point));
+    *answer = part_numbers(claim_parts::claim_part(listing, point));
 }
 
 // A run from a point and registers, which then hold the state handed back with the point of the answer:
@@ -86,6 +86,6 @@ pub extern "C" fn rithwellu_run_in_place(
 )
     ensures { λ _. ⌜ RunAnsweredInPlace (Run.run (now (listing .entry)) (now (state .entry)) (lent (now (trays .entry)) (now (results .entry))) budget) (now (state .exit)) (now (results .exit)) (now (answer .exit)) ⌝ }
 {
-    let e = runner::run_in_place(listing, state, trays, results, budget);
+    let e = in_place::run_in_place(listing, state, trays, results, budget);
     set_answer(e, state.point, answer);
 }

@@ -24,31 +24,31 @@ use Rattle.goals.specs.Goal.{byLink, bySomeLink}
 use Rattle.facts.proofs.Search.{or-left, below-same}
 use Rattle.goals.proofs.Easier.{link-lasting}
 
-module _ (f : Facts) (high : List ℕ) (low x a : ℕ) (rows : List ℕ) (n : ℕ)
-    (highs : HasHighs high (f .ranges)) (bottom : low ≡ lo (f .ranges) x) (stripes : HasRows rows n (f .stripes)) where
-  once-agrees : (y z p m : ℕ) → listed.atOnce high low rows n (stripe x a y z p m) ≡ known.atOnce f (stripe x a y z p m)
-  once-agrees y z p m = rw (highs y, highs z, bottom, stripes (λ (s : Stripe). covers s (stripe x a y z p m))) refl
+module _ (f : Facts) (low : ℕ) (high : List ℕ) (x a : ℕ) (stripes : List ℕ) (n : ℕ)
+    (highs : HasHighs high (f .ranges)) (bottom : low ≡ lo (f .ranges) x) (standing : HasRows stripes n (f .stripes)) where
+  once-agrees : (y z p m : ℕ) → listed.atOnce low high stripes n (stripe x a y z p m) ≡ known.atOnce f (stripe x a y z p m)
+  once-agrees y z p m = rw (highs y, highs z, bottom, standing (λ (s : Stripe). covers s (stripe x a y z p m))) refl
 
   -- a goal that follows at once follows
-  pub once-enough : (l y z p m : ℕ) → listed.atOnce high low rows n (stripe x a y z p m) ≡ true → known.follows f l (stripe x a y z p m) ≡ true
+  pub once-enough : (l y z p m : ℕ) → listed.atOnce low high stripes n (stripe x a y z p m) ≡ true → known.follows f l (stripe x a y z p m) ≡ true
   unfolding known.follows
   once-enough zero y z p m e = sym (once-agrees y z p m) ∙ e
   once-enough (suc l) y z p m e = or-left (known.atOnce f (stripe x a y z p m)) (some (throughLink (known.follows f l) (stripe x a y z p m)) (f .stripes)) (sym (once-agrees y z p m) ∙ e)
 
-  module _ (links : List ℕ) (k : ℕ) (gathered : Gathered links k rows n) where
-    pub follows-agrees : (l y z p m : ℕ) → listed.follows (listed.atOnce high low rows n) links k l (stripe x a y z p m) ≡ known.follows f l (stripe x a y z p m)
+  module _ (links : List ℕ) (k : ℕ) (gathered : Gathered links k stripes n) where
+    pub follows-agrees : (l y z p m : ℕ) → listed.follows (listed.atOnce low high stripes n) links k l (stripe x a y z p m) ≡ known.follows f l (stripe x a y z p m)
     unfolding listed.follows known.follows
     follows-agrees zero y z p m = once-agrees y z p m
     follows-agrees (suc l) y z p m =
         let g : Stripe = stripe x a y z p m in
-        let old : Stripe → Bool = listed.follows (listed.atOnce high low rows n) links k l in
+        let old : Stripe → Bool = listed.follows (listed.atOnce low high stripes n) links k l in
         let new : Stripe → Bool = known.follows f l in
         let same : bySomeLink old links k g ≡ some (throughLink new g) (f .stripes) =
         below-same (λ (i : ℕ). byLink old g (linkAt links i)) (λ (i : ℕ). byLink new g (linkAt links i))
         (λ i.
         let s : Stripe = linkAt links i in
         rw (follows-agrees l (s .x) z (p + a * s .minus) (m + a * s .plus), follows-agrees l y (s .x) (p + a * s .minus) (m + a * s .plus)) refl) k
-        ∙ gathered (byLink new g) (link-lasting f l g) ∙ stripes (throughLink new g) in
+        ∙ gathered (byLink new g) (link-lasting f l g) ∙ standing (throughLink new g) in
         rw (once-agrees y z p m, same) refl
 
 -- a goal taken apart into numbers is the goal

@@ -34,13 +34,13 @@ grown-added l' k' l k s e add p lasting =
     add p lasting ∙ ap (λ (b : Bool). old || b) (same-link p s ea ez) ∙ sym (ap (λ (b : Bool). old || (b && p s)) e)
 
 -- before the first row
-pub gathered-none : (l rows : List ℕ) → Gathered l 0 rows 0
+pub gathered-none : (l stripes : List ℕ) → Gathered l 0 stripes 0
 unfolding someBelow
-gathered-none l rows p lasting = refl
+gathered-none l stripes p lasting = refl
 
 -- one more row
-pub gathered-more : (l' : List ℕ) (k' : ℕ) (l : List ℕ) (k : ℕ) (rows : List ℕ) (n : ℕ) → Gathered l k rows n → Grown l' k' l k (stripeAt rows n) → Gathered l' k' rows (n + 1)
+pub gathered-more : (l' : List ℕ) (k' : ℕ) (l : List ℕ) (k : ℕ) (stripes : List ℕ) (n : ℕ) → Gathered l k stripes n → Grown l' k' l k (stripeAt stripes n) → Gathered l' k' stripes (n + 1)
 unfolding someBelow
-gathered-more l' k' l k rows n h grown p lasting =
-    let s : Stripe = stripeAt rows n in
+gathered-more l' k' l k stripes n h grown p lasting =
+    let s : Stripe = stripeAt stripes n in
     rw (add-one n) (grown p lasting ∙ ap (λ (b : Bool). b || (isLink s && p s)) (h p lasting))

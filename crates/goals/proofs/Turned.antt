@@ -29,9 +29,9 @@ module _ (x a : ℕ) where
   covers-turned s y z p m =
       ap (λ (b : Bool). eqb (s .x) x && eqb (s .a) a && b && leb (p + s .minus) (s .plus + m)) (or-comm (eqb (s .y) y && eqb (s .z) z) (eqb (s .y) z && eqb (s .z) y))
 
-  pub once-turned : (high : List ℕ) (low : ℕ) (rows : List ℕ) (n : ℕ) → Turns (atOnce high low rows n) x a
-  once-turned high low rows n y z p m =
-      rw (add-comm (getD high y 0) (getD high z 0), below-same (λ (i : ℕ). covers (stripeAt rows i) (stripe x a y z p m)) (λ (i : ℕ). covers (stripeAt rows i) (stripe x a z y p m)) (λ i. covers-turned (stripeAt rows i) y z p m) n) refl
+  pub once-turned : (low : ℕ) (high : List ℕ) (stripes : List ℕ) (n : ℕ) → Turns (atOnce low high stripes n) x a
+  once-turned low high stripes n y z p m =
+      rw (add-comm (getD high y 0) (getD high z 0), below-same (λ (i : ℕ). covers (stripeAt stripes i) (stripe x a y z p m)) (λ (i : ℕ). covers (stripeAt stripes i) (stripe x a z y p m)) (λ i. covers-turned (stripeAt stripes i) y z p m) n) refl
 
   module _ (once : Stripe → Bool) (turns : Turns once x a) (links : List ℕ) (k : ℕ) where
     pub follows-turned : (l : ℕ) → Turns (follows once links k l) x a

@@ -15,16 +15,16 @@ use Rattle.facts.specs.StripeRows.{SizedRows, stripeAt}
 use Rattle.goals.specs.Links.{SizedLinks, linkAt}
 
 -- the ends alone show the goal
-abbrev pub byEnds : List ℕ → ℕ → Stripe → Bool
-byEnds high low g = leb (g .a * (getD high (g .y) 0 + getD high (g .z) 0) + g .plus) (low + g .minus)
+abbrev pub byEnds : ℕ → List ℕ → Stripe → Bool
+byEnds low high g = leb (g .a * (getD high (g .y) 0 + getD high (g .z) 0) + g .plus) (low + g .minus)
 
--- one of the first n rows stands for the goal
+-- one of the first n stripes stands for the goal
 abbrev pub stands : List ℕ → ℕ → Stripe → Bool
-stands rows n g = someBelow (λ (i : ℕ). covers (stripeAt rows i) g) n
+stands stripes n g = someBelow (λ (i : ℕ). covers (stripeAt stripes i) g) n
 
 -- the goal follows with no link
-abbrev pub atOnce : List ℕ → ℕ → List ℕ → ℕ → Stripe → Bool
-atOnce high low rows n g = byEnds high low g || stands rows n g
+abbrev pub atOnce : ℕ → List ℕ → List ℕ → ℕ → Stripe → Bool
+atOnce low high stripes n g = byEnds low high g || stands stripes n g
 
 -- the link s replaces y or z
 abbrev pub replaces : Stripe → ℕ → ℕ → Bool
@@ -44,7 +44,7 @@ follows once links k zero g = once g
 follows once links k (suc n) g = once g || bySomeLink (follows once links k n) links k g
 
 -- the sizes of what the test with no link reads
-pub record Near (high : List ℕ) (low : ℕ) (rows : List ℕ) (n : ℕ) : Type 0 where
+pub record Near (low : ℕ) (high rows : List ℕ) (n : ℕ) : Type 0 where
   pub highs : SizedEnds high
   pub bottom : low ≤ MAX
   pub stripes : SizedRows rows

@@ -42,6 +42,6 @@ Added l' k' l k s = (p : Stripe → Bool) → Lasting p → someBelow (λ (i : �
 abbrev pub Grown : List ℕ → ℕ → List ℕ → ℕ → Stripe → Type 0
 Grown l' k' l k s = (p : Stripe → Bool) → Lasting p → someBelow (λ (i : ℕ). p (linkAt l' i)) k' ≡ (someBelow (λ (i : ℕ). p (linkAt l i)) k || (isLink s && p s))
 
--- k links of l are the links among the first n rows: no lasting test tells them apart
+-- k links of l are the links among the first n stripes: no lasting test tells them apart
 abbrev pub Gathered : List ℕ → ℕ → List ℕ → ℕ → Type 0
-Gathered l k rows n = (p : Stripe → Bool) → Lasting p → someBelow (λ (i : ℕ). p (linkAt l i)) k ≡ someBelow (λ (i : ℕ). isLink (stripeAt rows i) && p (stripeAt rows i)) n
+Gathered l k stripes n = (p : Stripe → Bool) → Lasting p → someBelow (λ (i : ℕ). p (linkAt l i)) k ≡ someBelow (λ (i : ℕ). isLink (stripeAt stripes i) && p (stripeAt stripes i)) n

@@ -1,11 +1,11 @@
 // Whether a goal, or a claim, follows from the facts that the arrays hold.
-use facts::ends::end_of;
+use crate::links::LINK_NUMBERS;
 use crate::links::gather;
 use crate::links::touches;
 use crate::standing::stands;
-use facts::stripe_rows::wide;
-use crate::links::LINK_NUMBERS;
+use facts::ends::end_of;
 use facts::sizes::STRIPE_NUMBERS;
+use facts::stripe_rows::wide;
 use model::claims::Claim;
 use model::claims::Stripe;
 use model::limits::GREATEST_LINKS;
@@ -35,8 +35,8 @@ fn scaled(a: u8, n: u64) -> u64
 
 // Whether the ends alone show the goal; low is the low end of its x.
 fn by_ends(
-    high: &[u64; VARIABLES],
     low: u64,
+    high: &[u64; VARIABLES],
     x: u64,
     a: u8,
     y: u64,
@@ -46,7 +46,7 @@ fn by_ends(
 ) -> bool
     requires { ⌜ SizedEnds (now high) × (low ≤ MAX) ⌝ }
     requires { ⌜ Room 0 (stripe x a y z plus minus) ⌝ }
-    ensures { λ r. ⌜ r ≡ Goal.byEnds (now (high .entry)) low (stripe x a y z plus minus) ⌝ }
+    ensures { λ r. ⌜ r ≡ Goal.byEnds low (now (high .entry)) (stripe x a y z plus minus) ⌝ }
 {
     let top = end_of(high, y as usize) + end_of(high, z as usize);
     scaled(a, top) + plus <= low + minus
@@ -54,9 +54,9 @@ fn by_ends(
 
 // Whether the goal follows with no link.
 fn at_once<'a>(
-    high: &'a [u64; VARIABLES],
     low: u64,
-    rows: &'a [u64; STRIPE_NUMBERS],
+    high: &'a [u64; VARIABLES],
+    stripes: &'a [u64; STRIPE_NUMBERS],
     count: usize,
     x: u64,
     a: u8,
@@ -65,21 +65,21 @@ fn at_once<'a>(
     plus: u64,
     minus: u64,
 ) -> bool
-    requires { ⌜ Near (now high) low (now rows) count ⌝ }
+    requires { ⌜ Near low (now high) (now stripes) count ⌝ }
     requires { ⌜ Room 0 (stripe x a y z plus minus) ⌝ }
-    ensures { λ r. ⌜ r ≡ atOnce (now (high .entry)) low (now (rows .entry)) count (stripe x a y z plus minus) ⌝ }
+    ensures { λ r. ⌜ r ≡ atOnce low (now (high .entry)) (now (stripes .entry)) count (stripe x a y z plus minus) ⌝ }
 {
-    if by_ends(high, low, x, a, y, z, plus, minus) {
+    if by_ends(low, high, x, a, y, z, plus, minus) {
         return true;
     }
-    stands(rows, count, x, a, y, z, plus, minus)
+    stands(stripes, count, x, a, y, z, plus, minus)
 }
 
 // Whether the goal follows within `left` links; their number falls at each use of one.
 fn follows<'a>(
-    high: &'a [u64; VARIABLES],
     low: u64,
-    rows: &'a [u64; STRIPE_NUMBERS],
+    high: &'a [u64; VARIABLES],
+    stripes: &'a [u64; STRIPE_NUMBERS],
     count: usize,
     links: &'a [u64; LINK_NUMBERS],
     all: usize,
@@ -91,21 +91,21 @@ fn follows<'a>(
     minus: u64,
     left: usize,
 ) -> bool
-    requires { ⌜ Near (now high) low (now rows) count ⌝ }
+    requires { ⌜ Near low (now high) (now stripes) count ⌝ }
     requires { ⌜ Linked (now links) all ⌝ }
     requires { ⌜ Room left (stripe x a y z plus minus) ⌝ }
-    ensures { λ r. ⌜ r ≡ Goal.follows (atOnce (now (high .entry)) low (now (rows .entry)) count) (now (links .entry)) all left (stripe x a y z plus minus) ⌝ }
+    ensures { λ r. ⌜ r ≡ Goal.follows (atOnce low (now (high .entry)) (now (stripes .entry)) count) (now (links .entry)) all left (stripe x a y z plus minus) ⌝ }
 {
-    if at_once(high, low, rows, count, x, a, y, z, plus, minus) {
+    if at_once(low, high, stripes, count, x, a, y, z, plus, minus) {
         return true;
     }
     if left == 0 {
         return false;
     }
     linked(
-        high,
         low,
-        rows,
+        high,
+        stripes,
         count,
         links,
         all,
@@ -121,9 +121,9 @@ fn follows<'a>(
 
 // Whether the goal follows by a link and at most `left` more.
 fn linked<'a>(
-    high: &'a [u64; VARIABLES],
     low: u64,
-    rows: &'a [u64; STRIPE_NUMBERS],
+    high: &'a [u64; VARIABLES],
+    stripes: &'a [u64; STRIPE_NUMBERS],
     count: usize,
     links: &'a [u64; LINK_NUMBERS],
     all: usize,
@@ -135,18 +135,18 @@ fn linked<'a>(
     minus: u64,
     left: usize,
 ) -> bool
-    requires { ⌜ Near (now high) low (now rows) count ⌝ }
+    requires { ⌜ Near low (now high) (now stripes) count ⌝ }
     requires { ⌜ Linked (now links) all ⌝ }
     requires { ⌜ Room (left + 1) (stripe x a y z plus minus) ⌝ }
-    ensures { λ r. ⌜ r ≡ bySomeLink (Goal.follows (atOnce (now (high .entry)) low (now (rows .entry)) count) (now (links .entry)) all left) (now (links .entry)) all (stripe x a y z plus minus) ⌝ }
+    ensures { λ r. ⌜ r ≡ bySomeLink (Goal.follows (atOnce low (now (high .entry)) (now (stripes .entry)) count) (now (links .entry)) all left) (now (links .entry)) all (stripe x a y z plus minus) ⌝ }
 {
     let mut i = 0;
     while i < all {
         if touches(links, i, y, z) {
             if through(
-                high,
                 low,
-                rows,
+                high,
+                stripes,
                 count,
                 links,
                 all,
@@ -169,9 +169,9 @@ fn linked<'a>(
 
 // Whether the goal follows by the i-th link, in the place of y or of z, and at most `left` more. Where y is z one of the two is enough.
 fn through<'a>(
-    high: &'a [u64; VARIABLES],
     low: u64,
-    rows: &'a [u64; STRIPE_NUMBERS],
+    high: &'a [u64; VARIABLES],
+    stripes: &'a [u64; STRIPE_NUMBERS],
     count: usize,
     links: &'a [u64; LINK_NUMBERS],
     all: usize,
@@ -184,11 +184,11 @@ fn through<'a>(
     left: usize,
     i: usize,
 ) -> bool
-    requires { ⌜ Near (now high) low (now rows) count ⌝ }
+    requires { ⌜ Near low (now high) (now stripes) count ⌝ }
     requires { ⌜ Linked (now links) all ⌝ }
     requires { ⌜ Room (left + 1) (stripe x a y z plus minus) ⌝ }
     requires { ⌜ i < all ⌝ }
-    ensures { λ r. ⌜ r ≡ byLink (Goal.follows (atOnce (now (high .entry)) low (now (rows .entry)) count) (now (links .entry)) all left) (stripe x a y z plus minus) (linkAt (now (links .entry)) i) ⌝ }
+    ensures { λ r. ⌜ r ≡ byLink (Goal.follows (atOnce low (now (high .entry)) (now (stripes .entry)) count) (now (links .entry)) all left) (stripe x a y z plus minus) (linkAt (now (links .entry)) i) ⌝ }
 {
     let at = i * 4;
     let v = links[at];
@@ -197,9 +197,9 @@ fn through<'a>(
     let less = minus + scaled(a, links[at + 2]);
     if v == y {
         return follows(
-            high,
             low,
-            rows,
+            high,
+            stripes,
             count,
             links,
             all,
@@ -214,9 +214,9 @@ fn through<'a>(
     }
     if v == z {
         return follows(
-            high,
             low,
-            rows,
+            high,
+            stripes,
             count,
             links,
             all,
@@ -234,29 +234,29 @@ fn through<'a>(
 
 // Whether the goal follows within three links. The links are gathered only for a goal that does not follow at once.
 pub fn goal_follows<'a>(
-    high: &'a [u64; VARIABLES],
     low: &'a [u64; VARIABLES],
-    rows: &'a [u64; STRIPE_NUMBERS],
+    high: &'a [u64; VARIABLES],
+    stripes: &'a [u64; STRIPE_NUMBERS],
     count: usize,
     g: Stripe,
 ) -> bool
-    requires { ⌜ Sized (now high) (now low) (now rows) count ⌝ }
+    requires { ⌜ Sized (now low) (now high) (now stripes) count ⌝ }
     requires { ⌜ Small g ⌝ }
-    ensures { λ r. ⌜ ((f : Facts) → Laid (now (high .entry)) (now (low .entry)) (now (rows .entry)) count f → r ≡ Follows.follows f greatestLinks g) ⌝ }
+    ensures { λ r. ⌜ ((f : Facts) → Laid (now (low .entry)) (now (high .entry)) (now (stripes .entry)) count f → r ≡ Follows.follows f greatestLinks g) ⌝ }
 {
     let bottom = end_of(low, g.x as usize);
     let x = wide(g.x);
     let y = wide(g.y);
     let z = wide(g.z);
-    if at_once(high, bottom, rows, count, x, g.a, y, z, g.plus, g.minus) {
+    if at_once(bottom, high, stripes, count, x, g.a, y, z, g.plus, g.minus) {
         return true;
     }
     let mut links: [u64; LINK_NUMBERS] = [0; LINK_NUMBERS];
-    let all = gather(rows, count, &mut links);
+    let all = gather(stripes, count, &mut links);
     follows(
-        high,
         bottom,
-        rows,
+        high,
+        stripes,
         count,
         &links,
         all,
@@ -272,19 +272,19 @@ pub fn goal_follows<'a>(
 
 // Whether a claim follows.
 pub fn claim_follows<'a>(
-    high: &'a [u64; VARIABLES],
     low: &'a [u64; VARIABLES],
-    rows: &'a [u64; STRIPE_NUMBERS],
+    high: &'a [u64; VARIABLES],
+    stripes: &'a [u64; STRIPE_NUMBERS],
     count: usize,
     c: Claim,
 ) -> bool
-    requires { ⌜ Sized (now high) (now low) (now rows) count ⌝ }
+    requires { ⌜ Sized (now low) (now high) (now stripes) count ⌝ }
     requires { ⌜ ClaimLimited c ⌝ }
-    ensures { λ r. ⌜ ((f : Facts) → Laid (now (high .entry)) (now (low .entry)) (now (rows .entry)) count f → r ≡ claimFollows f c) ⌝ }
+    ensures { λ r. ⌜ ((f : Facts) → Laid (now (low .entry)) (now (high .entry)) (now (stripes .entry)) count f → r ≡ claimFollows f c) ⌝ }
 {
     match c {
         Claim::Leas { v, least } => least <= end_of(low, v),
         Claim::Most { v, most } => end_of(high, v) <= most,
-        Claim::Strp(g) => goal_follows(high, low, rows, count, g),
+        Claim::Strp(g) => goal_follows(low, high, stripes, count, g),
     }
 }

@@ -17,12 +17,12 @@ ghost use Rattle.goals.specs.Goal;
 pub(crate) const LINK_NUMBERS: usize = EDGE_STRIPES * 4;
 
 // Whether the i-th row is a link.
-fn is_link(rows: &[u64; STRIPE_NUMBERS], i: usize) -> bool
+fn is_link(stripes: &[u64; STRIPE_NUMBERS], i: usize) -> bool
     requires { ⌜ i < edgeStripes ⌝ }
-    ensures { λ r. ⌜ r ≡ isLink (stripeAt (now (rows .entry)) i) ⌝ }
+    ensures { λ r. ⌜ r ≡ isLink (stripeAt (now (stripes .entry)) i) ⌝ }
 {
     let at = i * 6;
-    (rows[at + 1] == 1) & (rows[at + 3] == BLANK_VARIABLE as u64)
+    (stripes[at + 1] == 1) & (stripes[at + 3] == BLANK_VARIABLE as u64)
 }
 
 // Writes the i-th link.
@@ -95,39 +95,46 @@ fn add_link(
 
 // Adds the i-th row to the first k links, if it is a link.
 fn add_row<'a>(
-    rows: &'a [u64; STRIPE_NUMBERS],
+    stripes: &'a [u64; STRIPE_NUMBERS],
     i: usize,
     links: &'a mut [u64; LINK_NUMBERS],
     k: usize,
 ) -> usize
-    requires { ⌜ SizedRows (now rows) ⌝ }
+    requires { ⌜ SizedRows (now stripes) ⌝ }
     requires { ⌜ SizedLinks (now links) ⌝ }
     requires { ⌜ (i < edgeStripes) × (k < edgeStripes) ⌝ }
     ensures { λ r. ⌜ (r ≤ k + 1) × SizedLinks (now (links .exit)) ⌝ }
-    ensures { λ r. ⌜ Grown (now (links .exit)) r (now (links .entry)) k (stripeAt (now (rows .entry)) i) ⌝ }
+    ensures { λ r. ⌜ Grown (now (links .exit)) r (now (links .entry)) k (stripeAt (now (stripes .entry)) i) ⌝ }
 {
-    if is_link(rows, i) {
+    if is_link(stripes, i) {
         let at = i * 6;
-        return add_link(links, k, rows[at + 2], rows[at], rows[at + 4], rows[at + 5]);
+        return add_link(
+            links,
+            k,
+            stripes[at + 2],
+            stripes[at],
+            stripes[at + 4],
+            stripes[at + 5],
+        );
     }
     k
 }
 
-// Gathers the links among the first count rows, and answers how many it keeps.
+// Gathers the links among the first count stripes, and answers how many it keeps.
 pub(crate) fn gather<'a>(
-    rows: &'a [u64; STRIPE_NUMBERS],
+    stripes: &'a [u64; STRIPE_NUMBERS],
     count: usize,
     links: &'a mut [u64; LINK_NUMBERS],
 ) -> usize
-    requires { ⌜ SizedRows (now rows) ⌝ }
+    requires { ⌜ SizedRows (now stripes) ⌝ }
     requires { ⌜ SizedLinks (now links) ⌝ }
     requires { ⌜ count ≤ edgeStripes ⌝ }
-    ensures { λ r. ⌜ Gathered (now (links .exit)) r (now (rows .entry)) count × SizedLinks (now (links .exit)) × (r ≤ edgeStripes) ⌝ }
+    ensures { λ r. ⌜ Gathered (now (links .exit)) r (now (stripes .entry)) count × SizedLinks (now (links .exit)) × (r ≤ edgeStripes) ⌝ }
 {
     let mut k = 0;
     let mut i = 0;
     while i < count {
-        k = add_row(rows, i, links, k);
+        k = add_row(stripes, i, links, k);
         i += 1;
     }
     k

@@ -11,7 +11,7 @@ ghost use Rattle.goals.specs.Goal;
 
 // Whether the i-th row stands for the goal.
 fn covers(
-    rows: &[u64; STRIPE_NUMBERS],
+    stripes: &[u64; STRIPE_NUMBERS],
     i: usize,
     x: u64,
     a: u8,
@@ -20,25 +20,25 @@ fn covers(
     plus: u64,
     minus: u64,
 ) -> bool
-    requires { ⌜ SizedRows (now rows) ⌝ }
+    requires { ⌜ SizedRows (now stripes) ⌝ }
     requires { ⌜ i < edgeStripes ⌝ }
     requires { ⌜ Room 0 (stripe x a y z plus minus) ⌝ }
-    ensures { λ r. ⌜ r ≡ Follows.covers (stripeAt (now (rows .entry)) i) (stripe x a y z plus minus) ⌝ }
+    ensures { λ r. ⌜ r ≡ Follows.covers (stripeAt (now (stripes .entry)) i) (stripe x a y z plus minus) ⌝ }
 {
     let at = i * 6;
-    let s = rows[at];
+    let s = stripes[at];
     if s != x {
         return false;
     }
-    let p = rows[at + 2];
-    let q = rows[at + 3];
-    let bound = plus + rows[at + 5] <= rows[at + 4] + minus;
-    (rows[at + 1] == a as u64) & ((p == y) & (q == z) | (p == z) & (q == y)) & bound
+    let p = stripes[at + 2];
+    let q = stripes[at + 3];
+    let bound = plus + stripes[at + 5] <= stripes[at + 4] + minus;
+    (stripes[at + 1] == a as u64) & ((p == y) & (q == z) | (p == z) & (q == y)) & bound
 }
 
-// Whether one of the first count rows stands for the goal.
+// Whether one of the first count stripes stands for the goal.
 pub(crate) fn stands(
-    rows: &[u64; STRIPE_NUMBERS],
+    stripes: &[u64; STRIPE_NUMBERS],
     count: usize,
     x: u64,
     a: u8,
@@ -47,14 +47,14 @@ pub(crate) fn stands(
     plus: u64,
     minus: u64,
 ) -> bool
-    requires { ⌜ SizedRows (now rows) ⌝ }
+    requires { ⌜ SizedRows (now stripes) ⌝ }
     requires { ⌜ count ≤ edgeStripes ⌝ }
     requires { ⌜ Room 0 (stripe x a y z plus minus) ⌝ }
-    ensures { λ r. ⌜ r ≡ Goal.stands (now (rows .entry)) count (stripe x a y z plus minus) ⌝ }
+    ensures { λ r. ⌜ r ≡ Goal.stands (now (stripes .entry)) count (stripe x a y z plus minus) ⌝ }
 {
     let mut i = 0;
     while i < count {
-        if covers(rows, i, x, a, y, z, plus, minus) {
+        if covers(stripes, i, x, a, y, z, plus, minus) {
             return true;
         }
         i += 1;

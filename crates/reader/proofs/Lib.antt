@@ -5,4 +5,3 @@ pub mod Gathering
 pub mod Wholes
 pub mod Reading
 pub mod Listings
-pub mod Parts

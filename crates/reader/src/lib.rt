@@ -1,8 +1,7 @@
 // From a lent listing to its points: refusals 1 to 11, and the claim lines of a point.
-pub mod claims;
-pub mod point_facts;
 pub mod listing;
 pub mod places;
+pub mod point_facts;
 pub mod read;
 pub mod scan;
 pub mod sizes;

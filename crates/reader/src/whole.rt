@@ -1,7 +1,7 @@
 // The tests over the whole listing: refusals 7 to 11.
-use crate::point_facts::facts_at;
 use crate::places::line_of;
 use crate::places::row_of;
+use crate::point_facts::facts_at;
 use crate::scan::Scan;
 use decoded::decode::has_target;
 use decoded::decode::instruction_from;

@@ -16,8 +16,8 @@ use model::limits::REGISTERS;
 use model::limits::TABLES;
 use model::limits::VARIABLES;
 use model::machine::State;
-use reader::point_facts::facts_at;
 use reader::places::row_of;
+use reader::point_facts::facts_at;
 use reader::sizes::ALL_ROWS;
 use reader::sizes::FEW_LISTING;
 use reader::sizes::FEW_ROWS;
@@ -48,7 +48,7 @@ ghost use Rattle.model.specs.Run as Run;
 ghost use Rattle.model.specs.Run.{sizeFits};
 ghost use Rattle.reader.specs.Points.{Placed, AllPlaced, Holds, pointIn, pointsIn};
 ghost use Rattle.checker.specs.Judged.{Held};
-ghost use Rattle.runner.specs.Runs.{state, outcome, Gathered, CodeRoom, RunByValue, RunInPlace};
+ghost use Rattle.runner.specs.Runs.{state, outcome, Gathered, CodeRoom, RunByValue};
 
 // The code of the longest listing: a row for each point.
 const ALL_CODE: usize = GREATEST_POINTS * ROW_NUMBERS;
@@ -347,22 +347,4 @@ pub fn run(listing: &[u8], state: State, trays: &[u8], results: &mut [u8], budge
     }
     let mut code = [0u64; ALL_CODE];
     run_many(listing, &mut code, point, registers, trays, results, budget)
-}
-
-// The same run on a lent state, which it changes in place.
-pub fn run_in_place(
-    listing: &[u8],
-    state: &mut State,
-    trays: &[u8],
-    results: &mut [u8],
-    budget: u32,
-) -> Ending
-    ensures { λ r. ⌜ RunInPlace (Run.run (now (listing .entry)) (now (state .entry)) (lent (now (trays .entry)) (now (results .entry))) budget) r (now (state .exit)) (now (results .exit)) ⌝ }
-{
-    let o = run(listing, *state, trays, results, budget);
-    *state = o.state;
-    Ending {
-        report: o.report,
-        steps: o.steps,
-    }
 }

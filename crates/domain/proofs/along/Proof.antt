@@ -34,7 +34,7 @@ returns c =
     let rs : List Range = rangesOf low high in
     let new : List Range = rangesAlong (a .e) (a .i) rs in
     let ranges = ranges-written low high ends (changes .result) _ _ (wrote .ensures .0) (wrote .ensures .1) new (changes .ensures) in (
-      edge-known (a .e) (a .i) low high (a .rows .now) (a .n) _ _ _ (c .carry-out .result) ranges (rest .0 ∙ c .before .before .before .before .before .plan-along .ensures .same (stripesOf (a .rows .now) (a .n))),
+      edge-known (a .e) (a .i) low high (a .stripes .now) (a .n) _ _ _ (c .carry-out .result) ranges (rest .0 ∙ c .before .before .before .before .before .plan-along .ensures .same (stripesOf (a .stripes .now) (a .n))),
       record {
         lows = low-long low high ends (changes .result) _ _ (wrote .ensures .0) (wrote .ensures .1);
         highs = highs-written low high ends (changes .result) _ _ (wrote .ensures .0) (wrote .ensures .1) new (changes .ensures) (edge-highs (a .e) (a .i) low high (start .pre .1 .0) ends);

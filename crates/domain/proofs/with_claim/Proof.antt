@@ -40,7 +40,7 @@ write-row-requires c κs =
     let start = c .before .before .before .before in
     let h = rw (c .before .before .c3 .given .1) at (start .pre .1 .0) in
     let room = rw (c .before .before .c3 .given .1) at (start .pre .1 .1) in
-    (standing-sized (start .args .rows .now) (start .args .n) (start .pre .0 .stripes), (omega arith, record { plus = omega (arith, h .plus); minus = omega (arith, h .minus) }))
+    (standing-sized (start .args .stripes .now) (start .args .n) (start .pre .0 .stripes), (omega arith, record { plus = omega (arith, h .plus); minus = omega (arith, h .minus) }))
 
 add-result : tie.Need-add-result
 add-result c = search needs
@@ -52,7 +52,7 @@ returns c =
     let told = c .before .c .given in
     let h = rw (told .1) at (start .pre .1 .0) in
     let even = ends-even (a .low .now) (a .high .now) (start .pre .0 .ends) in
-    (rw (told .1, low-set (a .low .now) (a .high .now) even (told .0 .0) (told .0 .1 .0)), (point-low (a .low .now) (a .high .now) (a .rows .now) (a .n) (start .pre .0) (told .0 .0) (told .0 .1 .0) (omega (arith, h .1, unclaimed-top (told .0 .0))), rw (told .1) (omega arith)))
+    (rw (told .1, low-set (a .low .now) (a .high .now) even (told .0 .0) (told .0 .1 .0)), (point-low (a .low .now) (a .high .now) (a .stripes .now) (a .n) (start .pre .0) (told .0 .0) (told .0 .1 .0) (omega (arith, h .1, unclaimed-top (told .0 .0))), rw (told .1) (omega arith)))
 
 returns-2 : tie.Need-returns-2
 returns-2 c =
@@ -61,7 +61,7 @@ returns-2 c =
     let told = c .before .c2 .given in
     let h = rw (told .1) at (start .pre .1 .0) in
     let even = ends-even (a .low .now) (a .high .now) (start .pre .0 .ends) in
-    (rw (told .1, high-set (a .low .now) (a .high .now) even (told .0 .0) (told .0 .1 .0)), (point-high (a .low .now) (a .high .now) (a .rows .now) (a .n) (start .pre .0) (told .0 .0) (told .0 .1 .0) (omega (arith, h .1, unclaimed-top (told .0 .0))), rw (told .1) (omega arith)))
+    (rw (told .1, high-set (a .low .now) (a .high .now) even (told .0 .0) (told .0 .1 .0)), (point-high (a .low .now) (a .high .now) (a .stripes .now) (a .n) (start .pre .0) (told .0 .0) (told .0 .1 .0) (omega (arith, h .1, unclaimed-top (told .0 .0))), rw (told .1) (omega arith)))
 
 returns-3 : tie.Need-returns-3
 returns-3 c =
@@ -72,8 +72,8 @@ returns-3 c =
     let h = rw (told .1) at (start .pre .1 .0) in
     let room = rw (told .1) at (start .pre .1 .1) in
     let wrote = c .write-row .ensures .0 in
-    let sized = standing-sized (a .rows .now) (a .n) (start .pre .0 .stripes) in
-    (rw (told .1, wrote, stripes-written (a .rows .now) (a .n) s sized (omega arith)), (rw wrote (point-row (a .low .now) (a .high .now) (a .rows .now) (a .n) (start .pre .0) s h (omega arith)), rw (told .1) (omega arith)))
+    let sized = standing-sized (a .stripes .now) (a .n) (start .pre .0 .stripes) in
+    (rw (told .1, wrote, stripes-written (a .stripes .now) (a .n) s sized (omega arith)), (rw wrote (point-row (a .low .now) (a .high .now) (a .stripes .now) (a .n) (start .pre .0) s h (omega arith)), rw (told .1) (omega arith)))
 
 pub with-claim-spec : {M : Type 1} → statement M
 with-claim-spec =

@@ -52,10 +52,10 @@ use Rattle.runner.specs.declared.Ending.{Ending}
 use Rattle.runner.specs.Runs.{RunInPlace}
 use Rattle.runner.proofs.Ending as E
 use Rattle.runner.proofs.Ending.Laws as E′
-use Rattle.runner.proofs.run_in_place as placed
-use Rattle.runner.proofs.run_in_place.Symbol as placed-def
-use Rattle.runner.proofs.run_in_place.Symbol.{name as #runner·run-in-place}
-use Rattle.runner.proofs.run_in_place.Met as placed-thm
+use Rattle.in_place.proofs.run_in_place as placed
+use Rattle.in_place.proofs.run_in_place.Symbol as placed-def
+use Rattle.in_place.proofs.run_in_place.Symbol.{name as #in-place·run-in-place}
+use Rattle.in_place.proofs.run_in_place.Met as placed-thm
 use Rattle.output.specs.Arrays.{runAnswer}
 use Rattle.exports.proofs.set_answer as setting
 use Rattle.exports.proofs.set_answer.Symbol as setting-def
@@ -173,7 +173,7 @@ module _ {M : Type 1} (𝓤 : URA M) (H : Heap 𝓤) (A : Atoms 𝓤) (W : Given
   ending-is : (e : Ending) (vs : List Val) → Is E.the-row e vs → Is E.the-row e (ending-vals e)
   ending-is e vs g = LL.owes E.the-type E′.the-laws e (LL.owed E.the-type E′.the-laws e vs g)
 
-  module _ (C : Calls 𝓤 H) (Λ : Loops 𝓤 H) (fm : FmC 𝓤 H (W .laws) C) (known : Triple 𝓤 (C #runner·run-in-place) (Calling 𝓤 H A at-mem run)) (known-set : Triple 𝓤 (C #exports·set-answer) (Setting 𝓤 H A at-mem run)) where
+  module _ (C : Calls 𝓤 H) (Λ : Loops 𝓤 H) (fm : FmC 𝓤 H (W .laws) C) (known : Triple 𝓤 (C #in-place·run-in-place) (Calling 𝓤 H A at-mem run)) (known-set : Triple 𝓤 (C #exports·set-answer) (Setting 𝓤 H A at-mem run)) where
     walk : Room u8 (length (li .now)) → Room u8 (length (tr .now)) → Room u8 (length ys) → ent 𝓤 (onEntry 𝓤 H A lent.signature (κ₀, (κ₁, (κ₂, (κ₃, (κ₄, tt))))) (q₀, (q₁, (q₂, (q₃, (q₄, tt))))) x at) (WpFn 𝓤 H C Λ code.function (lv ∷ vptr b o ∷ tv ∷ rv ∷ vint w32 n ∷ vptr b″ o″ ∷ []) Post)
     walk room₀ room₁ room₂ =
         qed W ((‵ (flft κ₀ q₀) ⊛ ‵ (flft κ₁ q₁) ⊛ ‵ (flft κ₂ q₂) ⊛ ‵ (flft κ₃ q₃) ⊛ ‵ (flft κ₄ q₄) ⊛ ‵ ftrue) ∷ ‵ (owns (ShrSlice (named 0) κ₀ u8 ∷ MutRef (named 1) κ₁ S.the-row ∷ ShrSlice (named 2) κ₂ u8 ∷ MutSlice (named 3) κ₃ u8 ∷ u32 ∷ MutRef (named 4) κ₄ Numbers ∷ []) x at) ∷ []) ∵ enter ! C Λ code.function (lv ∷ vptr b o ∷ tv ∷ rv ∷ vint w32 n ∷ vptr b″ o″ ∷ []) _ $
@@ -227,7 +227,7 @@ module _ {M : Type 1} (𝓤 : URA M) (H : Heap 𝓤) (A : Atoms 𝓤) (W : Given
         keep ! (0 ∷ 1 ∷ 2 ∷ 3 ∷ 4 ∷ 5 ∷ 6 ∷ 7 ∷ []) $ by ! (exits e (zs .1 .0) (zs .1 .1 .1 .0) (us .1 .1 .0) p f l))))))))))))))))))))))))))))))
 
 module _ {M : Type 1} (𝓤 : URA M) (H : Heap 𝓤) (A : Atoms 𝓤) (W : Given 𝓤 H A) (at-mem : Memory → SProp 𝓤) (run : Routine → Fun 𝓤) where
-  lent-walks : (C : Calls 𝓤 H) (Λ : Loops 𝓤 H) → FmC 𝓤 H (W .laws) C → Triple 𝓤 (C #runner·run-in-place) (Calling 𝓤 H A at-mem run) → Triple 𝓤 (C #exports·set-answer) (Setting 𝓤 H A at-mem run) → Walks 𝓤 H A lent.ended stayed (WpFn 𝓤 H C Λ code.function) (lent.clauses 𝓤 H A at-mem run)
+  lent-walks : (C : Calls 𝓤 H) (Λ : Loops 𝓤 H) → FmC 𝓤 H (W .laws) C → Triple 𝓤 (C #in-place·run-in-place) (Calling 𝓤 H A at-mem run) → Triple 𝓤 (C #exports·set-answer) (Setting 𝓤 H A at-mem run) → Walks 𝓤 H A lent.ended stayed (WpFn 𝓤 H C Λ code.function) (lent.clauses 𝓤 H A at-mem run)
   lent-walks C Λ fm known known-set = walked 𝓤 H A lent.ended stayed (lent.clauses 𝓤 H A at-mem run) (WpFn 𝓤 H C Λ code.function)
       (λ κs. (slice-vals, (ptr-vals, (slice-vals, (slice-vals, (uint-vals w32, (ptr-vals, tt))))))) (λ κs. (shr-slice-tells (named 0) (κs .0) u8, (mut-tells (named 1) (κs .1 .0) S.the-row, (shr-slice-tells (named 2) (κs .1 .1 .0) u8, (mut-slice-tells (named 3) (κs .1 .1 .1 .0) u8, (uint-tells w32, (mut-tells (named 4) (κs .1 .1 .1 .1 .0) Numbers, tt)))))))
       (λ κs qs bounds a g are. via 𝓤 _ (fst∗ 𝓤 _ (emp 𝓤)) (walk 𝓤 H A W at-mem run (κs .0) (κs .1 .0) (κs .1 .1 .0) (κs .1 .1 .1 .0) (κs .1 .1 .1 .1 .0) (qs .0) (qs .1 .0) (qs .1 .1 .0) (qs .1 .1 .1 .0) (qs .1 .1 .1 .1 .0) (a .0) (a .1 .0 .ptr .0) (a .1 .0 .ptr .1) (a .1 .0 .name) (a .1 .0 .now) (a .1 .1 .0) (a .1 .1 .1 .0 .ptr .0) (a .1 .1 .1 .0 .ptr .1) (a .1 .1 .1 .0 .name) (a .1 .1 .1 .0 .now) (a .1 .1 .1 .1 .0) (are .1 .1 .1 .1 .0 .1) (a .1 .1 .1 .1 .1 .0 .ptr .0) (a .1 .1 .1 .1 .1 .0 .ptr .1) (a .1 .1 .1 .1 .1 .0 .name) (a .1 .1 .1 .1 .1 .0 .now) C Λ fm known known-set (are .0 .0 .1) (are .1 .1 .0 .0 .1) (are .1 .1 .1 .0 .0 .1)))
@@ -235,7 +235,7 @@ module _ {M : Type 1} (𝓤 : URA M) (H : Heap 𝓤) (A : Atoms 𝓤) (W : Given
   goes : AllGo 𝓤 H A W 5 (lent.signature .params) (lent.ended .kept) stayed
   goes = (goes-dropped 𝓤 H A W 5 (shrSliceOf (0 ∷ []) tt (plain (λ _. u8))) yes (λ κs x f. refl), (goes-ref 𝓤 H A W 5 1 tt (plain (λ _. S.the-row)), (goes-dropped 𝓤 H A W 5 (shrSliceOf (2 ∷ []) tt (plain (λ _. u8))) yes (λ κs x f. refl), (goes-gave-slice 𝓤 H A W 5 3 tt (plain (λ _. u8)), (goes-none 𝓤 H A W 5 (λ _. u32) yes (λ κs x f. refl), (goes-gave-ref 𝓤 H A W 5 4 tt numbers, tt))))))
 
-lent-meets : {M : Type 1} (𝓤 : URA M) (H : Heap 𝓤) (A : Atoms 𝓤) → Given 𝓤 H A → (at-mem : Memory → SProp 𝓤) (run : Routine → Fun 𝓤) (𝓣 : Tables 𝓤 H) → Triple 𝓤 (𝓣 .C #runner·run-in-place) (Calling 𝓤 H A at-mem run) → Triple 𝓤 (𝓣 .C #exports·set-answer) (Setting 𝓤 H A at-mem run)
+lent-meets : {M : Type 1} (𝓤 : URA M) (H : Heap 𝓤) (A : Atoms 𝓤) → Given 𝓤 H A → (at-mem : Memory → SProp 𝓤) (run : Routine → Fun 𝓤) (𝓣 : Tables 𝓤 H) → Triple 𝓤 (𝓣 .C #in-place·run-in-place) (Calling 𝓤 H A at-mem run) → Triple 𝓤 (𝓣 .C #exports·set-answer) (Setting 𝓤 H A at-mem run)
     → Meets 𝓤 H A lent.signature (WpFn 𝓤 H (𝓣 .C) (𝓣 .Λ) code.function) (lent.spec 𝓤 H A at-mem run)
 lent-meets 𝓤 H A W at-mem run 𝓣 known known-set = walk-meets 𝓤 H A lent.ended stayed W (goes 𝓤 H A W at-mem run) (lent.clauses 𝓤 H A at-mem run) (WpFn 𝓤 H (𝓣 .C) (𝓣 .Λ) code.function) (WpFn-mono 𝓤 H (W .laws) 𝓣 code.function) (lent-walks 𝓤 H A W at-mem run (𝓣 .C) (𝓣 .Λ) (fmOf 𝓤 H (W .laws) 𝓣) known known-set)
 
@@ -245,5 +245,5 @@ rithwellu-run-in-place-spec 𝓤 H 𝓜 𝓖 𝓡 =
     entered 𝓤 H (tripleOf 𝓤 H (𝓖 .A) lent.signature (lent.spec 𝓤 H (𝓖 .A) (𝓜 .mem) (𝓡 .run)))
     (tables 𝓤 H 𝓜 𝓡 code.env .C) (tables 𝓤 H 𝓜 𝓡 code.env .Λ) #exports·rithwellu-run-in-place code.function (code.unfolded 𝓤 H 𝓜 𝓡)
     (lent-meets 𝓤 H (𝓖 .A) (givenOf 𝓤 H 𝓜 𝓖) (𝓜 .mem) (𝓡 .run) (tablesOf 𝓤 H 𝓜 (tables 𝓤 H 𝓜 𝓡 code.env))
-    (cited 𝓤 H (Calling 𝓤 H (𝓖 .A) (𝓜 .mem) (𝓡 .run)) 𝓜 𝓡 code.env #runner·run-in-place placed-def.routine code.calls-runner·run-in-place (placed-thm.met 𝓤 H 𝓜 𝓖 𝓡))
+    (cited 𝓤 H (Calling 𝓤 H (𝓖 .A) (𝓜 .mem) (𝓡 .run)) 𝓜 𝓡 code.env #in-place·run-in-place placed-def.routine code.calls-in-place·run-in-place (placed-thm.met 𝓤 H 𝓜 𝓖 𝓡))
     (cited 𝓤 H (Setting 𝓤 H (𝓖 .A) (𝓜 .mem) (𝓡 .run)) 𝓜 𝓡 code.env #exports·set-answer setting-def.routine code.calls-exports·set-answer (setting-thm.met 𝓤 H 𝓜 𝓖 𝓡)))

@@ -13,10 +13,10 @@ use Rattle.checker.proofs.lost.lost_among.Statement.{statement}
 use Rattle.checker.proofs.lost.lost_among.Tie as tie
 
 abbrev Inv-loop : tie.InvT-loop
-Inv-loop rows from n high low stripes count j₀ j = (j ≤ n) × ((f : Facts) → Laid high low stripes count f → firstLost f (from + 1) (claimsFrom rows from j) ≡ 0)
+Inv-loop rows from n low high stripes count j₀ j = (j ≤ n) × ((f : Facts) → Laid low high stripes count f → firstLost f (from + 1) (claimsFrom rows from j) ≡ 0)
 
 abbrev μ-loop : tie.MeasureT-loop
-μ-loop rows from n high low stripes count j₀ j = n - j
+μ-loop rows from n low high stripes count j₀ j = n - j
 
 loop-holds : tie.Need-loop-holds Inv-loop μ-loop
 loop-holds c = (omega arith, λ f laid. lost-none _ f _)

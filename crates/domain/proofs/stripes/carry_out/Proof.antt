@@ -16,7 +16,7 @@ returns : tie.Need-returns
 returns c =
     let a = c .before .before .before .before .args in
     let rest = c .put-all .ensures in
-    (added-kept (a .p .added) (keptOf (a .p .kept) (stripesOf (a .rows .now) (a .n))) (c .before .before .put-added .ensures .0) (rest .0), rest .0 .sized, rest .1)
+    (added-kept (a .p .added) (keptOf (a .p .kept) (stripesOf (a .stripes .now) (a .n))) (c .before .before .put-added .ensures .0) (rest .0), rest .0 .sized, rest .1)
 
 pub carry-out-spec : {M : Type 1} → statement M
 carry-out-spec = tie.close (tie.spec put-added-requires put-all-requires returns)

@@ -19,7 +19,7 @@ returns c =
     let start = c .before .before in
     let a = start .args in
     let wrote = c .write-row .ensures in
-    (record { same = ap (λ (l : List ℕ). stripesOf l (a .m + 1)) (wrote .0) ∙ stripes-written (a .rows .now) (a .m) (a .s) (start .pre .0) (start .pre .1 .0); sized = wrote .1 }, refl)
+    (record { same = ap (λ (l : List ℕ). stripesOf l (a .m + 1)) (wrote .0) ∙ stripes-written (a .stripes .now) (a .m) (a .s) (start .pre .0) (start .pre .1 .0); sized = wrote .1 }, refl)
 
 pub put-spec : {M : Type 1} → statement M
 put-spec = tie.close (tie.spec write-row-requires add-result returns)

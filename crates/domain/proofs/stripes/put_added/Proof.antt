@@ -34,7 +34,7 @@ put-requires-3 c κs =
 returns : tie.Need-returns
 returns c =
     let start = c .before .before in
-    (rw (c .enum-told .given .1) (extends-none (start .args .rows .now) 0 (start .pre .0)), omega arith)
+    (rw (c .enum-told .given .1) (extends-none (start .args .stripes .now) 0 (start .pre .0)), omega arith)
 
 returns-2 : tie.Need-returns-2
 returns-2 c = (rw (c .before .before .before .a .given .1) (c .put .ensures .0), omega (arith, c .put .ensures .1))

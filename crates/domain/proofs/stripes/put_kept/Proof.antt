@@ -22,7 +22,7 @@ returns : tie.Need-returns
 returns c =
     let start = c .before .before .before .before .before in
     let a = start .args in
-    (rw (c .before .before .before .k .given .1, named-one (a .s) _ (sym (c .before .names .ensures) ∙ c .if1 .taken)) (extends-none (a .rows .now) (a .m) (start .pre .1 .1 .0)), omega arith)
+    (rw (c .before .before .before .k .given .1, named-one (a .s) _ (sym (c .before .names .ensures) ∙ c .if1 .taken)) (extends-none (a .stripes .now) (a .m) (start .pre .1 .1 .0)), omega arith)
 
 put-requires-2 : tie.Need-put-requires-2
 put-requires-2 c κs = search needs
@@ -56,7 +56,7 @@ returns-5 : tie.Need-returns-5
 returns-5 c =
     let start = c .before .before .before .before .before .before in
     let a = start .args in
-    (rw (c .before .before .before .before .k2 .given .1, shifted-away (a .s) _ _ _ (c .before .before .shifted .result) (c .before .before .shifted .ensures .0) (sym (c .before .bound-in-limits .ensures) ∙ c .if2 .left)) (extends-none (a .rows .now) (a .m) (start .pre .1 .1 .0)), omega arith)
+    (rw (c .before .before .before .before .k2 .given .1, shifted-away (a .s) _ _ _ (c .before .before .shifted .result) (c .before .before .shifted .ensures .0) (sym (c .before .bound-in-limits .ensures) ∙ c .if2 .left)) (extends-none (a .stripes .now) (a .m) (start .pre .1 .1 .0)), omega arith)
 
 pub put-kept-spec : {M : Type 1} → statement M
 put-kept-spec =

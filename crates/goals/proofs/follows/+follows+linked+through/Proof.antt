@@ -32,8 +32,8 @@ use Rattle.goals.proofs.follows.+follows+linked+through.{statement}
 use Rattle.goals.proofs.follows.+follows+linked+through.Tie.{close}
 
 -- the test of a goal with these links left
-abbrev rest : List ℕ → ℕ → List ℕ → ℕ → List ℕ → ℕ → ℕ → Stripe → Bool
-rest high low rows count links all left = listed.follows (atOnce high low rows count) links all left
+abbrev rest : ℕ → List ℕ → List ℕ → ℕ → List ℕ → ℕ → ℕ → Stripe → Bool
+rest low high stripes count links all left = listed.follows (atOnce low high stripes count) links all left
 
 abbrev μ-follows : Measures 1 follows-kinds.ps ℕ
 μ-follows κs a = 3 * a .1 .1 .1 .1 .1 .1 .1 .1 .1 .1 .1 .1 .0
@@ -78,12 +78,12 @@ follows-at-once-requires t c κs = (c .pre .1 .0, omega arith)
 follows-returns : (t : ℕ) → follows-lts.Need-returns (follows-claims t) (follows-at t) follows.Post
 follows-returns t c =
     let a = c .before .before .args in
-    sym (cases.follows-once (atOnce (a .high .now) (a .low) (a .rows .now) (a .count)) (a .links .now) (a .all) (goal (a .x) (a .a) (a .y) (a .z) (a .plus) (a .minus)) (a .left) (sym (c .before .at-once .ensures) ∙ c .if1 .taken))
+    sym (cases.follows-once (atOnce (a .low) (a .high .now) (a .stripes .now) (a .count)) (a .links .now) (a .all) (goal (a .x) (a .a) (a .y) (a .z) (a .plus) (a .minus)) (a .left) (sym (c .before .at-once .ensures) ∙ c .if1 .taken))
 
 follows-returns-2 : (t : ℕ) → follows-lts.Need-returns-2 (follows-claims t) (follows-at t) follows.Post
 follows-returns-2 t c =
     let a = c .before .before .before .args in
-    sym (cases.follows-none (atOnce (a .high .now) (a .low) (a .rows .now) (a .count)) (a .links .now) (a .all) (goal (a .x) (a .a) (a .y) (a .z) (a .plus) (a .minus)) (a .left) (c .if2 .taken) (sym (c .before .before .at-once .ensures) ∙ c .before .if1 .left))
+    sym (cases.follows-none (atOnce (a .low) (a .high .now) (a .stripes .now) (a .count)) (a .links .now) (a .all) (goal (a .x) (a .a) (a .y) (a .z) (a .plus) (a .minus)) (a .left) (c .if2 .taken) (sym (c .before .before .at-once .ensures) ∙ c .before .if1 .left))
 
 follows-sub-linked : (t : ℕ) → follows-lts.Need-sub-linked (follows-claims t) (follows-at t) follows.Post
 follows-sub-linked t c = omega arith
@@ -96,14 +96,14 @@ follows-linked-requires t c κs =
 follows-returns-3 : (t : ℕ) → follows-lts.Need-returns-3 (follows-claims t) (follows-at t) follows.Post
 follows-returns-3 t c =
     let a = c .before .before .before .before .args in
-    c .linked .ensures ∙ sym (cases.follows-linked (atOnce (a .high .now) (a .low) (a .rows .now) (a .count)) (a .links .now) (a .all) (goal (a .x) (a .a) (a .y) (a .z) (a .plus) (a .minus)) (a .left) (c .before .if2 .left) (sym (c .before .before .before .at-once .ensures) ∙ c .before .before .if1 .left))
+    c .linked .ensures ∙ sym (cases.follows-linked (atOnce (a .low) (a .high .now) (a .stripes .now) (a .count)) (a .links .now) (a .all) (goal (a .x) (a .a) (a .y) (a .z) (a .plus) (a .minus)) (a .left) (c .before .if2 .left) (sym (c .before .before .before .at-once .ensures) ∙ c .before .before .if1 .left))
 
 abbrev linked-Inv-loop : linked-lts.InvT-loop
-linked-Inv-loop high low rows count links all x a y z plus minus left i₀ i =
-    (i ≤ all) × (bySomeLink (rest high low rows count links all left) links i (goal x a y z plus minus) ≡ false)
+linked-Inv-loop low high stripes count links all x a y z plus minus left i₀ i =
+    (i ≤ all) × (bySomeLink (rest low high stripes count links all left) links i (goal x a y z plus minus) ≡ false)
 
 abbrev linked-μ-loop : linked-lts.MeasureT-loop
-linked-μ-loop high low rows count links all x a y z plus minus left i₀ i = all - i
+linked-μ-loop low high stripes count links all x a y z plus minus left i₀ i = all - i
 
 linked-loop-holds : (t : ℕ) → linked-lts.Need-loop-holds (linked-claims t) (linked-at t) linked.Post linked-Inv-loop linked-μ-loop
 linked-loop-holds t c = (search needs, below-none _)
@@ -120,7 +120,7 @@ linked-returns : (t : ℕ) → linked-lts.Need-returns (linked-claims t) (linked
 linked-returns t c =
     let a = c .before .before .before .before .before .before .args in
     let at = c .before .before .before .before .before .loop in
-    sym (below-hit (λ (i : ℕ). byLink (rest (a .high .now) (a .low) (a .rows .now) (a .count) (a .links .now) (a .all) (a .left)) (goal (a .x) (a .a) (a .y) (a .z) (a .plus) (a .minus)) (linkAt (a .links .now) i)) (a .all) (at .i) (omega arith) (sym (c .before .through .ensures) ∙ c .if2 .taken))
+    sym (below-hit (λ (i : ℕ). byLink (rest (a .low) (a .high .now) (a .stripes .now) (a .count) (a .links .now) (a .all) (a .left)) (goal (a .x) (a .a) (a .y) (a .z) (a .plus) (a .minus)) (linkAt (a .links .now) i)) (a .all) (at .i) (omega arith) (sym (c .before .through .ensures) ∙ c .if2 .taken))
 
 linked-add-i : (t : ℕ) → linked-lts.Need-add-i (linked-claims t) (linked-at t) linked.Post linked-Inv-loop linked-μ-loop
 linked-add-i t c = omega arith
@@ -132,7 +132,7 @@ linked-loop-again : (t : ℕ) → linked-lts.Need-loop-again (linked-claims t) (
 linked-loop-again t c =
     let a = c .before .before .before .before .args in
     let at = c .before .before .before .loop in
-    let f : Stripe → Bool = rest (a .high .now) (a .low) (a .rows .now) (a .count) (a .links .now) (a .all) (a .left) in
+    let f : Stripe → Bool = rest (a .low) (a .high .now) (a .stripes .now) (a .count) (a .links .now) (a .all) (a .left) in
     let g : Stripe = goal (a .x) (a .a) (a .y) (a .z) (a .plus) (a .minus) in
     let missed : byLink f g (linkAt (a .links .now) (at .i)) ≡ false =
     ⊎-elim
@@ -146,7 +146,7 @@ linked-returns-2 t c =
     let a = c .before .before .args in
     let at = c .before .loop in
     let done : at .i ≡ a .all = omega arith in
-    sym (subst (λ (k : ℕ). bySomeLink (rest (a .high .now) (a .low) (a .rows .now) (a .count) (a .links .now) (a .all) (a .left)) (a .links .now) k (goal (a .x) (a .a) (a .y) (a .z) (a .plus) (a .minus)) ≡ false) done (at .inv .1))
+    sym (subst (λ (k : ℕ). bySomeLink (rest (a .low) (a .high .now) (a .stripes .now) (a .count) (a .links .now) (a .all) (a .left)) (a .links .now) k (goal (a .x) (a .a) (a .y) (a .z) (a .plus) (a .minus)) ≡ false) done (at .inv .1))
 
 through-mul-at : (t : ℕ) → through-lts.Need-mul-at (through-claims t) (through-at t) through.Post
 through-mul-at t c = omega arith
@@ -208,8 +208,8 @@ through-follows-requires t c κs =
 through-returns : (t : ℕ) → through-lts.Need-returns (through-claims t) (through-at t) through.Post
 through-returns t c =
     let a = c .before .before .before .before .before .before .before .before .args in
-    let f : Stripe → Bool = rest (a .high .now) (a .low) (a .rows .now) (a .count) (a .links .now) (a .all) (a .left) in
-    let turns = follows-turned (a .x) (a .a) (atOnce (a .high .now) (a .low) (a .rows .now) (a .count)) (once-turned (a .x) (a .a) (a .high .now) (a .low) (a .rows .now) (a .count)) (a .links .now) (a .all) (a .left) in
+    let f : Stripe → Bool = rest (a .low) (a .high .now) (a .stripes .now) (a .count) (a .links .now) (a .all) (a .left) in
+    let turns = follows-turned (a .x) (a .a) (atOnce (a .low) (a .high .now) (a .stripes .now) (a .count)) (once-turned (a .x) (a .a) (a .low) (a .high .now) (a .stripes .now) (a .count)) (a .links .now) (a .all) (a .left) in
     c .follows .ensures
     ∙ cases.moved-y f (goal (a .x) (a .a) (a .y) (a .z) (a .plus) (a .minus)) (linkAt (a .links .now) (a .i)) _ _ (c .before .before .before .before .scaled .ensures .0) (c .before .before .scaled2 .ensures .0)
     ∙ sym (cases.by-y f (goal (a .x) (a .a) (a .y) (a .z) (a .plus) (a .minus)) (linkAt (a .links .now) (a .i)) (c .before .if1 .taken) (cases.either-place f (goal (a .x) (a .a) (a .y) (a .z) (a .plus) (a .minus)) (linkAt (a .links .now) (a .i)) turns))
@@ -222,7 +222,7 @@ through-follows-requires-2 t c κs =
 through-returns-2 : (t : ℕ) → through-lts.Need-returns-2 (through-claims t) (through-at t) through.Post
 through-returns-2 t c =
     let a = c .before .before .before .before .before .before .before .before .before .args in
-    let f : Stripe → Bool = rest (a .high .now) (a .low) (a .rows .now) (a .count) (a .links .now) (a .all) (a .left) in
+    let f : Stripe → Bool = rest (a .low) (a .high .now) (a .stripes .now) (a .count) (a .links .now) (a .all) (a .left) in
     c .follows2 .ensures
     ∙ cases.moved-z f (goal (a .x) (a .a) (a .y) (a .z) (a .plus) (a .minus)) (linkAt (a .links .now) (a .i)) _ _ (c .before .before .before .before .before .scaled .ensures .0) (c .before .before .before .scaled2 .ensures .0)
     ∙ sym (cases.by-z f (goal (a .x) (a .a) (a .y) (a .z) (a .plus) (a .minus)) (linkAt (a .links .now) (a .i)) (c .before .before .if1 .left) (c .before .if2 .taken))
@@ -230,7 +230,7 @@ through-returns-2 t c =
 through-returns-3 : (t : ℕ) → through-lts.Need-returns-3 (through-claims t) (through-at t) through.Post
 through-returns-3 t c =
     let a = c .before .before .before .before .before .before .before .before .args in
-    let f : Stripe → Bool = rest (a .high .now) (a .low) (a .rows .now) (a .count) (a .links .now) (a .all) (a .left) in
+    let f : Stripe → Bool = rest (a .low) (a .high .now) (a .stripes .now) (a .count) (a .links .now) (a .all) (a .left) in
     sym (cases.by-neither f (goal (a .x) (a .a) (a .y) (a .z) (a .plus) (a .minus)) (linkAt (a .links .now) (a .i)) (c .before .if1 .left) (c .if2 .left))
 
 pub +follows+linked+through-spec : {M : Type 1} → statement M

@@ -36,7 +36,7 @@ returns c f laid =
     let y = c .before .before .before .wide2 in
     let z = c .before .before .wide3 in
     sym (sym (together f greatestLinks (a .g) (x .result) (y .result) (z .result) (x .ensures .0) (y .ensures .0) (z .ensures .0))
-    ∙ once-enough f (a .high .now) (low .result) (x .result) (a .g .a) (a .rows .now) (a .count)
+    ∙ once-enough f (low .result) (a .high .now) (x .result) (a .g .a) (a .stripes .now) (a .count)
     (laid .highs) (low .ensures .0 ∙ laid .lows (a .g .x) ∙ ap (lo (f .ranges)) (sym (x .ensures .0))) (laid .stripes)
     greatestLinks (y .result) (z .result) (a .g .plus) (a .g .minus) (sym (c .before .at-once .ensures) ∙ c .if1 .taken))
 
@@ -62,7 +62,7 @@ returns-2 c f laid =
     let z = c .before .before .before .before .before .before .wide3 in
     let found = c .before .before .gather in
     c .follows .ensures
-    ∙ follows-agrees f (a .high .now) (low .result) (x .result) (a .g .a) (a .rows .now) (a .count)
+    ∙ follows-agrees f (low .result) (a .high .now) (x .result) (a .g .a) (a .stripes .now) (a .count)
     (laid .highs) (low .ensures .0 ∙ laid .lows (a .g .x) ∙ ap (lo (f .ranges)) (sym (x .ensures .0))) (laid .stripes)
     (found .last .1 .1 .0) (found .result) (found .ensures .0)
     greatestLinks (y .result) (z .result) (a .g .plus) (a .g .minus)

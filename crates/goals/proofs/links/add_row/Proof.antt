@@ -58,13 +58,13 @@ returns : tie.Need-returns
 returns c =
     let start = c .before .before .before .before .before .before .before .before in
     let a = start .args in
-    (c .add-link .ensures .0, grown-added (c .add-link .last .0) (c .add-link .result) (a .links .now) (a .k) (stripeAt (a .rows .now) (a .i)) (sym (c .before .before .before .before .before .before .before .is-link .ensures) ∙ c .before .before .before .before .before .before .if1 .taken) (c .add-link .ensures .1))
+    (c .add-link .ensures .0, grown-added (c .add-link .last .0) (c .add-link .result) (a .links .now) (a .k) (stripeAt (a .stripes .now) (a .i)) (sym (c .before .before .before .before .before .before .before .is-link .ensures) ∙ c .before .before .before .before .before .before .if1 .taken) (c .add-link .ensures .1))
 
 returns-2 : tie.Need-returns-2
 returns-2 c =
     let start = c .before .before in
     let a = start .args in
-    ((omega arith, start .pre .1 .0), grown-passed (a .links .now) (a .k) (stripeAt (a .rows .now) (a .i)) (sym (c .before .is-link .ensures) ∙ c .if1 .left))
+    ((omega arith, start .pre .1 .0), grown-passed (a .links .now) (a .k) (stripeAt (a .stripes .now) (a .i)) (sym (c .before .is-link .ensures) ∙ c .if1 .left))
 
 pub add-row-spec : {M : Type 1} → statement M
 add-row-spec =

@@ -5,10 +5,10 @@ use Rattle.goals.proofs.links.place.Statement.{statement}
 use Rattle.goals.proofs.links.place.Tie as tie
 
 abbrev Inv-loop : tie.InvT-loop
-Inv-loop rows k v u i₀ i = i ≤ k
+Inv-loop stripes k v u i₀ i = i ≤ k
 
 abbrev μ-loop : tie.MeasureT-loop
-μ-loop rows k v u i₀ i = k - i
+μ-loop stripes k v u i₀ i = k - i
 
 loop-holds : tie.Need-loop-holds Inv-loop μ-loop
 loop-holds c = omega arith

@@ -20,7 +20,7 @@ element-copy-out-s c = search needs
 returns : tie.Need-returns
 returns c =
     let a = c .before .before .args in
-    rw (ne-eqb (getD (a .rows .now) (a .i * 6) 0) (a .x) (c .if1 .taken)) refl
+    rw (ne-eqb (getD (a .stripes .now) (a .i * 6) 0) (a .x) (c .if1 .taken)) refl
 
 add-p : tie.Need-add-p
 add-p c = search needs
@@ -80,7 +80,7 @@ element-copy-out-result c = search needs
 returns-2 : tie.Need-returns-2
 returns-2 c =
     let a = c .before .before .before .before .before .before .before .args in
-    rw (eq-eqb (getD (a .rows .now) (a .i * 6) 0) (a .x) (c .before .before .before .before .before .if1 .left)) refl
+    rw (eq-eqb (getD (a .stripes .now) (a .i * 6) 0) (a .x) (c .before .before .before .before .before .if1 .left)) refl
 
 pub covers-spec : {M : Type 1} → statement M
 covers-spec =

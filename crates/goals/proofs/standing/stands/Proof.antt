@@ -14,10 +14,10 @@ use Rattle.goals.proofs.standing.stands.Statement.{statement}
 use Rattle.goals.proofs.standing.stands.Tie as tie
 
 abbrev Inv-loop : tie.InvT-loop
-Inv-loop rows count x a y z plus minus i₀ i = (i ≤ count) × (stands rows i (stripe x a y z plus minus) ≡ false)
+Inv-loop stripes count x a y z plus minus i₀ i = (i ≤ count) × (stands stripes i (stripe x a y z plus minus) ≡ false)
 
 abbrev μ-loop : tie.MeasureT-loop
-μ-loop rows count x a y z plus minus i₀ i = count - i
+μ-loop stripes count x a y z plus minus i₀ i = count - i
 
 loop-holds : tie.Need-loop-holds Inv-loop μ-loop
 loop-holds c = (search needs, below-none _)
@@ -30,7 +30,7 @@ returns c =
     let a = c .before .before .before .before .args in
     let at = c .before .before .before .loop in
     let g : Stripe = stripe (a .x) (a .a) (a .y) (a .z) (a .plus) (a .minus) in
-    sym (below-hit (λ (i : ℕ). covers (stripeAt (a .rows .now) i) g) (a .count) (at .i) (omega arith) (sym (c .before .covers .ensures) ∙ c .if1 .taken))
+    sym (below-hit (λ (i : ℕ). covers (stripeAt (a .stripes .now) i) g) (a .count) (at .i) (omega arith) (sym (c .before .covers .ensures) ∙ c .if1 .taken))
 
 add-i : tie.Need-add-i Inv-loop μ-loop
 add-i c = omega arith
@@ -49,7 +49,7 @@ returns-2 c =
     let at = c .before .loop in
     let g : Stripe = stripe (a .x) (a .a) (a .y) (a .z) (a .plus) (a .minus) in
     let done : at .i ≡ a .count = omega arith in
-    sym (subst (λ (n : ℕ). stands (a .rows .now) n g ≡ false) done (at .inv .1))
+    sym (subst (λ (n : ℕ). stands (a .stripes .now) n g ≡ false) done (at .inv .1))
 
 pub stands-spec : {M : Type 1} → statement M
 stands-spec =

@@ -2,9 +2,9 @@ use Prim.Native.Nat.{ℕ, _+_, _-_}
 use mathlib.Core.Path.{_≡_}
 use native.Mathlib.Omega.{arith}
 use borrow.Author.Needs.{needs}
-use Rattle.reader.proofs.Parts.{lies-inside, holds-lines}
-use Rattle.reader.proofs.claims.claim_lines.Statement.{statement}
-use Rattle.reader.proofs.claims.claim_lines.Tie as tie
+use Rattle.claim_parts.proofs.Parts.{lies-inside, holds-lines}
+use Rattle.claim_parts.proofs.claim_lines.Statement.{statement}
+use Rattle.claim_parts.proofs.claim_lines.Tie as tie
 
 span : (a n : ℕ) → a + n - a ≡ n
 span a n = omega arith

@@ -1,9 +1,9 @@
 -- The part of a listing that is read, or none. Assumes nothing.
 use Rattle.model.specs.Listing.{listingOf}
-use Rattle.reader.proofs.Parts.{none-refused, none-past, point-placed, part-read}
+use Rattle.claim_parts.proofs.Parts.{none-refused, none-past, point-placed, part-read}
 use borrow.Author.Needs.{needs}
-use Rattle.reader.proofs.claims.claim_part.Statement.{statement}
-use Rattle.reader.proofs.claims.claim_part.Tie as tie
+use Rattle.claim_parts.proofs.claim_part.Statement.{statement}
+use Rattle.claim_parts.proofs.claim_part.Tie as tie
 
 slice-aggregate-read-listing : tie.Need-slice-aggregate-read-listing
 slice-aggregate-read-listing c = search needs

@@ -48,18 +48,18 @@ use Rattle.model.proofs.machine.State as S
 use Rattle.model.proofs.machine.State.Laws as S′
 use Rattle.model.proofs.answers.Outcome as O
 use Rattle.model.proofs.answers.Outcome.Laws as O′
 use Rattle.runner.specs.declared.Ending.{Ending}
 use Rattle.runner.specs.Runs.{RunByValue}
 use Rattle.runner.proofs.Ending as E
 use Rattle.runner.proofs.Ending.Laws as E′
 use Rattle.runner.proofs.run as ran
 use Rattle.runner.proofs.run.Symbol as ran-def
 use Rattle.runner.proofs.run.Symbol.{name as #runner·run}
 use Rattle.runner.proofs.run.Met as ran-thm
-use Rattle.runner.proofs.run_in_place.Key.{name as #runner·run-in-place}
-use Rattle.runner.proofs.run_in_place as lent
-use Rattle.runner.proofs.run_in_place.Statement as stated
-use Rattle.runner.proofs.run_in_place.Code as code
+use Rattle.in_place.proofs.run_in_place.Key.{name as #in-place·run-in-place}
+use Rattle.in_place.proofs.run_in_place as lent
+use Rattle.in_place.proofs.run_in_place.Statement as stated
+use Rattle.in_place.proofs.run_in_place.Code as code
 
 abbrev stayed : Stays (lent.ended .signature .params) (lent.ended .kept)
 stayed = (stay-dropped (shrSliceOf (0 ∷ []) tt (plain (λ _. u8))) yes, (stay-ref (1 ∷ []) tt (plain (λ _. S.the-row)), (stay-dropped (shrSliceOf (2 ∷ []) tt (plain (λ _. u8))) yes, (gave-slice (3 ∷ []) tt (plain (λ _. u8)), (stay-none (λ _. u32) yes, tt)))))
@@ -187,6 +187,6 @@ pub run-in-place-spec : {M : Type 1} → stated.statement M
 unfolding code.routine tablesOf
 run-in-place-spec 𝓤 H 𝓜 𝓖 𝓡 =
     entered 𝓤 H (tripleOf 𝓤 H (𝓖 .A) lent.signature (lent.spec 𝓤 H (𝓖 .A) (𝓜 .mem) (𝓡 .run)))
-    (tables 𝓤 H 𝓜 𝓡 code.env .C) (tables 𝓤 H 𝓜 𝓡 code.env .Λ) #runner·run-in-place code.function (code.unfolded 𝓤 H 𝓜 𝓡)
+    (tables 𝓤 H 𝓜 𝓡 code.env .C) (tables 𝓤 H 𝓜 𝓡 code.env .Λ) #in-place·run-in-place code.function (code.unfolded 𝓤 H 𝓜 𝓡)
     (lent-meets 𝓤 H (𝓖 .A) (givenOf 𝓤 H 𝓜 𝓖) (𝓜 .mem) (𝓡 .run) (tablesOf 𝓤 H 𝓜 (tables 𝓤 H 𝓜 𝓡 code.env))
     (cited 𝓤 H (Calling 𝓤 H (𝓖 .A) (𝓜 .mem) (𝓡 .run)) 𝓜 𝓡 code.env #runner·run ran-def.routine code.calls-runner·run (ran-thm.met 𝓤 H 𝓜 𝓖 𝓡)))

@@ -1,8 +1,8 @@
 -- The offset and the length by the numbers of the place. Assumes nothing.
-use Rattle.reader.proofs.Parts.{part-at}
+use Rattle.claim_parts.proofs.Parts.{part-at}
 use borrow.Author.Needs.{needs}
-use Rattle.reader.proofs.claims.part_of.Statement.{statement}
-use Rattle.reader.proofs.claims.part_of.Tie as tie
+use Rattle.claim_parts.proofs.part_of.Statement.{statement}
+use Rattle.claim_parts.proofs.part_of.Tie as tie
 
 first-of-requires : tie.Need-first-of-requires
 first-of-requires c κs = search needs

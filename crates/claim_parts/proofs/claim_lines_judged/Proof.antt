@@ -1,7 +1,7 @@
 use borrow.Author.Needs.{needs}
-use Rattle.reader.proofs.Parts.{is-judged}
-use Rattle.reader.proofs.claims.claim_lines_judged.Statement.{statement}
-use Rattle.reader.proofs.claims.claim_lines_judged.Tie as tie
+use Rattle.claim_parts.proofs.Parts.{is-judged}
+use Rattle.claim_parts.proofs.claim_lines_judged.Statement.{statement}
+use Rattle.claim_parts.proofs.claim_lines_judged.Tie as tie
 
 claim-part-requires : tie.Need-claim-part-requires
 claim-part-requires c κs = search needs
