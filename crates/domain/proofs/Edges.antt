@@ -12,12 +12,12 @@ use Rattle.model.specs.Limits.{variables, MAX}
 use Rattle.model.specs.Transfer.{rangesAlong, stripesAlong, factsAlong}
 use Rattle.model.specs.Limited.{Limited}
 use Rattle.facts.specs.Ends.{SizedEnds}
-use Rattle.domain.specs.declared.ranges.Changes.{Changes}
+use Rattle.edge_ranges.specs.declared.Changes.{Changes}
 use Rattle.facts.specs.Known.{rangesOf, stripesOf, known, High, Ends}
-use Rattle.domain.specs.Changes.{Makes}
+use Rattle.edge_ranges.specs.Changes.{Makes}
 use Rattle.facts.proofs.Held.{high-held, range-set}
-use Rattle.domain.proofs.Points.{ends-even}
-use Rattle.domain.proofs.Transfers.{along-high}
+use Rattle.facts.proofs.Points.{ends-even}
+use Rattle.edge_ranges.proofs.Transfers.{along-high}
 
 -- the ends of a point are values of a register, so its high ends are
 high-ends : (low high : List ℕ) → Ends low high → High (rangesOf low high)

@@ -1,12 +1,9 @@
 // What is known at a point and along an edge, in lent arrays of numbers: the low and the high end of each range, and rows of six numbers for the stripes.
 // A range that holds nothing may have a low end above every value of a register, so ends are 64-bit numbers and are never cut.
-mod ranges;
-mod stripes;
-
-use crate::ranges::change;
-use crate::ranges::changes_along;
-use crate::stripes::carry_out;
-use crate::stripes::plan_along;
+use edge_ranges::change;
+use edge_ranges::changes_along;
+use edge_stripes::carry_out;
+use edge_stripes::plan_along;
 use facts::sizes::STRIPE_NUMBERS;
 use facts::stripe_rows::write_row;
 use model::claims::Claim;

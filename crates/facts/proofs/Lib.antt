@@ -2,3 +2,4 @@
 pub mod Search
 pub mod Written
 pub mod Held
+pub mod Points

@@ -11,7 +11,7 @@ use Rattle.model.proofs.Lists.{every-snoc}
 use Rattle.facts.specs.StripeRows.{stripeAt}
 use Rattle.facts.specs.Known.{rangesOf, stripesOf, Ends}
 use Rattle.facts.proofs.Held.{range-held, stripes-more}
-use Rattle.domain.proofs.Points.{ends-even}
+use Rattle.facts.proofs.Points.{ends-even}
 use Rattle.runner.specs.Meets.{inOwnRange, inRanges}
 
 -- a variable tested against the ends that the arrays hold

@@ -2,7 +2,7 @@
 use borrow.Author.Needs.{needs}
 use native.Mathlib.Omega.{arith}
 use Rattle.facts.proofs.Held.{low-set, high-set, stripes-written}
-use Rattle.domain.proofs.Points.{unclaimed-top, ends-even, standing-sized, point-low, point-high, point-row}
+use Rattle.facts.proofs.Points.{unclaimed-top, ends-even, standing-sized, point-low, point-high, point-row}
 use Rattle.domain.proofs.with_claim.Statement.{statement}
 use Rattle.domain.proofs.with_claim.Tie as tie
 

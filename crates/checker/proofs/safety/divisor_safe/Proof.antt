@@ -2,7 +2,7 @@
 use native.Mathlib.Omega.{arith}
 use borrow.Author.Needs.{needs}
 use Rattle.facts.proofs.Held.{low-held}
-use Rattle.domain.proofs.Points.{ends-even}
+use Rattle.facts.proofs.Points.{ends-even}
 use Rattle.checker.proofs.safety.divisor_safe.Statement.{statement}
 use Rattle.checker.proofs.safety.divisor_safe.Tie as tie
 

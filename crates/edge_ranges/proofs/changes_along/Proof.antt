@@ -1,0 +1,251 @@
+-- Each arm is the clause of the definition for its instruction. Assumes nothing.
+use borrow.Author.Needs.{needs}
+use mathlib.Core.Path.{subst}
+use mathlib.Core.List.{List}
+use native.Mathlib.Omega.{arith}
+use Rattle.model.specs.declared.claims.Range.{Range}
+use Rattle.model.specs.Transfer.{rangesAlong}
+use Rattle.facts.specs.Known.{rangesOf}
+use Rattle.edge_ranges.specs.Changes.{Makes}
+use Rattle.edge_ranges.proofs.Transfers.{ordered-ranges, matched-ranges}
+use Rattle.edge_ranges.proofs.changes_along.Statement.{statement}
+use Rattle.edge_ranges.proofs.changes_along.Tie as tie
+
+enum-told : tie.Need-enum-told
+enum-told c = search needs
+
+unchanged-requires : tie.Need-unchanged-requires
+unchanged-requires c κs = search needs
+
+enum-known-i : tie.Need-enum-known-i
+enum-known-i c = search needs
+
+cast-exactly : tie.Need-cast-exactly
+cast-exactly c = search needs
+
+exactly-requires : tie.Need-exactly-requires
+exactly-requires c κs = search needs
+
+one-requires : tie.Need-one-requires
+one-requires c κs =
+    let h = rw (c .before .before .i .given .1) at (c .before .before .before .before .pre .1) in
+    omega arith
+
+enum-known-i-2 : tie.Need-enum-known-i-2
+enum-known-i-2 c = search needs
+
+range-at-requires : tie.Need-range-at-requires
+range-at-requires c κs =
+    let h = rw (c .before .i2 .given .1) at (c .before .before .before .pre .1) in
+    (c .before .before .before .pre .0, omega arith)
+
+one-requires-2 : tie.Need-one-requires-2
+one-requires-2 c κs =
+    let h = rw (c .before .before .i2 .given .1) at (c .before .before .before .before .pre .1) in
+    omega arith
+
+enum-known-i-3 : tie.Need-enum-known-i-3
+enum-known-i-3 c = search needs
+
+sum-at-requires : tie.Need-sum-at-requires
+sum-at-requires c κs =
+    let h = rw (c .before .i3 .given .1) at (c .before .before .before .pre .1) in
+    (c .before .before .before .pre .0, (h .variable, h .operand))
+
+one-requires-3 : tie.Need-one-requires-3
+one-requires-3 c κs =
+    let h = rw (c .before .before .i3 .given .1) at (c .before .before .before .before .pre .1) in
+    omega arith
+
+enum-known-i-4 : tie.Need-enum-known-i-4
+enum-known-i-4 c = search needs
+
+difference-at-requires : tie.Need-difference-at-requires
+difference-at-requires c κs =
+    let h = rw (c .before .i4 .given .1) at (c .before .before .before .pre .1) in
+    (c .before .before .before .pre .0, (h .variable, h .operand))
+
+one-requires-4 : tie.Need-one-requires-4
+one-requires-4 c κs =
+    let h = rw (c .before .before .i4 .given .1) at (c .before .before .before .before .pre .1) in
+    omega arith
+
+enum-known-i-5 : tie.Need-enum-known-i-5
+enum-known-i-5 c = search needs
+
+product-at-requires : tie.Need-product-at-requires
+product-at-requires c κs =
+    let h = rw (c .before .i5 .given .1) at (c .before .before .before .pre .1) in
+    (c .before .before .before .pre .0, (h .variable, h .operand))
+
+one-requires-5 : tie.Need-one-requires-5
+one-requires-5 c κs =
+    let h = rw (c .before .before .i5 .given .1) at (c .before .before .before .before .pre .1) in
+    omega arith
+
+enum-known-i-6 : tie.Need-enum-known-i-6
+enum-known-i-6 c = search needs
+
+quotient-at-requires : tie.Need-quotient-at-requires
+quotient-at-requires c κs =
+    let h = rw (c .before .i6 .given .1) at (c .before .before .before .pre .1) in
+    (c .before .before .before .pre .0, (h .variable, h .operand))
+
+one-requires-6 : tie.Need-one-requires-6
+one-requires-6 c κs =
+    let h = rw (c .before .before .i6 .given .1) at (c .before .before .before .before .pre .1) in
+    omega arith
+
+enum-known-i-7 : tie.Need-enum-known-i-7
+enum-known-i-7 c = search needs
+
+loaded-requires : tie.Need-loaded-requires
+loaded-requires c κs = search needs
+
+one-requires-7 : tie.Need-one-requires-7
+one-requires-7 c κs =
+    let h = rw (c .before .before .i7 .given .1) at (c .before .before .before .before .pre .1) in
+    omega arith
+
+enum-known-i-8 : tie.Need-enum-known-i-8
+enum-known-i-8 c = search needs
+
+unchanged-requires-2 : tie.Need-unchanged-requires-2
+unchanged-requires-2 c κs = search needs
+
+enum-known-i-9 : tie.Need-enum-known-i-9
+enum-known-i-9 c = search needs
+
+unchanged-requires-3 : tie.Need-unchanged-requires-3
+unchanged-requires-3 c κs = search needs
+
+enum-known-i-10 : tie.Need-enum-known-i-10
+enum-known-i-10 c = search needs
+
+ordered-ranges-requires : tie.Need-ordered-ranges-requires
+ordered-ranges-requires c κs =
+    let h = rw (c .before .i10 .given .1) at (c .before .before .before .pre .1) in
+    (c .before .before .before .pre .0, (h .variable, h .operand))
+
+enum-known-i-11 : tie.Need-enum-known-i-11
+enum-known-i-11 c = search needs
+
+matched-ranges-requires : tie.Need-matched-ranges-requires
+matched-ranges-requires c κs =
+    let h = rw (c .before .i11 .given .1) at (c .before .before .before .pre .1) in
+    (c .before .before .before .pre .0, (h .variable, h .operand))
+
+returns : tie.Need-returns
+unfolding rangesAlong
+returns c = rw (c .before .enum-told .given .1) (c .unchanged .ensures)
+
+returns-2 : tie.Need-returns-2
+unfolding rangesAlong
+returns-2 c =
+    let a = c .before .before .before .before .before .args in
+    rw (c .before .before .before .i .given .1) (rw (c .before .exactly .ensures) at (c .one .ensures (rangesOf (a .low .now) (a .high .now))))
+
+returns-3 : tie.Need-returns-3
+unfolding rangesAlong
+returns-3 c =
+    let a = c .before .before .before .before .before .args in
+    rw (c .before .before .before .i2 .given .1) (rw (c .before .range-at .ensures .0) at (c .one2 .ensures (rangesOf (a .low .now) (a .high .now))))
+
+returns-4 : tie.Need-returns-4
+unfolding rangesAlong
+returns-4 c =
+    let a = c .before .before .before .before .before .args in
+    rw (c .before .before .before .i3 .given .1) (rw (c .before .sum-at .ensures) at (c .one3 .ensures (rangesOf (a .low .now) (a .high .now))))
+
+returns-5 : tie.Need-returns-5
+unfolding rangesAlong
+returns-5 c =
+    let a = c .before .before .before .before .before .args in
+    rw (c .before .before .before .i4 .given .1) (rw (c .before .difference-at .ensures) at (c .one4 .ensures (rangesOf (a .low .now) (a .high .now))))
+
+returns-6 : tie.Need-returns-6
+unfolding rangesAlong
+returns-6 c =
+    let a = c .before .before .before .before .before .args in
+    rw (c .before .before .before .i5 .given .1) (rw (c .before .product-at .ensures) at (c .one5 .ensures (rangesOf (a .low .now) (a .high .now))))
+
+returns-7 : tie.Need-returns-7
+unfolding rangesAlong
+returns-7 c =
+    let a = c .before .before .before .before .before .args in
+    rw (c .before .before .before .i6 .given .1) (rw (c .before .quotient-at .ensures) at (c .one6 .ensures (rangesOf (a .low .now) (a .high .now))))
+
+returns-8 : tie.Need-returns-8
+unfolding rangesAlong
+returns-8 c =
+    let a = c .before .before .before .before .before .args in
+    rw (c .before .before .before .i7 .given .1) (rw (c .before .loaded .ensures) at (c .one7 .ensures (rangesOf (a .low .now) (a .high .now))))
+
+returns-9 : tie.Need-returns-9
+unfolding rangesAlong
+returns-9 c = rw (c .before .before .i8 .given .1) (c .unchanged2 .ensures)
+
+returns-10 : tie.Need-returns-10
+unfolding rangesAlong
+returns-10 c = rw (c .before .before .i9 .given .1) (c .unchanged3 .ensures)
+
+returns-11 : tie.Need-returns-11
+returns-11 c =
+    let a = c .before .before .before .before .args in
+    let rs : List Range = rangesOf (a .low .now) (a .high .now) in
+    rw (c .before .before .i10 .given .1) (subst (Makes (c .ordered-ranges .result) rs) (ordered-ranges _ _ _ _ rs) (c .ordered-ranges .ensures))
+
+returns-12 : tie.Need-returns-12
+returns-12 c =
+    let a = c .before .before .before .before .args in
+    let rs : List Range = rangesOf (a .low .now) (a .high .now) in
+    rw (c .before .before .i11 .given .1) (subst (Makes (c .matched-ranges .result) rs) (matched-ranges _ _ _ _ rs) (c .matched-ranges .ensures))
+
+pub changes-along-spec : {M : Type 1} → statement M
+changes-along-spec =
+    tie.close
+    (tie.spec
+    enum-told
+    unchanged-requires
+    enum-known-i
+    cast-exactly
+    exactly-requires
+    one-requires
+    enum-known-i-2
+    range-at-requires
+    one-requires-2
+    enum-known-i-3
+    sum-at-requires
+    one-requires-3
+    enum-known-i-4
+    difference-at-requires
+    one-requires-4
+    enum-known-i-5
+    product-at-requires
+    one-requires-5
+    enum-known-i-6
+    quotient-at-requires
+    one-requires-6
+    enum-known-i-7
+    loaded-requires
+    one-requires-7
+    enum-known-i-8
+    unchanged-requires-2
+    enum-known-i-9
+    unchanged-requires-3
+    enum-known-i-10
+    ordered-ranges-requires
+    enum-known-i-11
+    matched-ranges-requires
+    returns
+    returns-2
+    returns-3
+    returns-4
+    returns-5
+    returns-6
+    returns-7
+    returns-8
+    returns-9
+    returns-10
+    returns-11
+    returns-12)

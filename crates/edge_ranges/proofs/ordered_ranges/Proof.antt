@@ -1,0 +1,33 @@
+-- The edge chooses the rule. Assumes nothing.
+use borrow.Author.Needs.{needs}
+use Rattle.edge_ranges.proofs.ordered_ranges.Statement.{statement}
+use Rattle.edge_ranges.proofs.ordered_ranges.Tie as tie
+
+enum-told : tie.Need-enum-told
+enum-told c = search needs
+
+not-less-ranges-requires : tie.Need-not-less-ranges-requires
+not-less-ranges-requires c κs = search needs
+
+enum-known-e : tie.Need-enum-known-e
+enum-known-e c = search needs
+
+less-ranges-requires : tie.Need-less-ranges-requires
+less-ranges-requires c κs = search needs
+
+returns : tie.Need-returns
+returns c = rw (c .before .enum-told .given .1) (c .not-less-ranges .ensures)
+
+returns-2 : tie.Need-returns-2
+returns-2 c = rw (c .before .before .e .given .1) (c .less-ranges .ensures)
+
+pub ordered-ranges-spec : {M : Type 1} → statement M
+ordered-ranges-spec =
+    tie.close
+    (tie.spec
+    enum-told
+    not-less-ranges-requires
+    enum-known-e
+    less-ranges-requires
+    returns
+    returns-2)

@@ -1,0 +1,14 @@
+use borrow.Author.Needs.{needs}
+use native.Mathlib.Nat.{mul-le-mul}
+use native.Mathlib.Omega.{arith}
+use Rattle.edge_ranges.proofs.product_fits.Statement.{statement}
+use Rattle.edge_ranges.proofs.product_fits.Tie as tie
+
+mul-result : tie.Need-mul-result
+mul-result c = omega (arith, mul-le-mul (c .before .before .pre .0 .high) (c .before .before .pre .1 .high))
+
+returns : tie.Need-returns
+returns c = search needs
+
+pub product-fits-spec : {M : Type 1} → statement M
+product-fits-spec = tie.close (tie.spec mul-result returns)

@@ -1,0 +1,27 @@
+-- A range set to what it is changes nothing. Assumes nothing.
+use borrow.Author.Needs.{needs}
+use mathlib.Core.Path.{ap, subst, _∙_}
+use mathlib.Core.List.{List}
+use lib.ListN.{set}
+use lib.Seq.{set-getD}
+use Rattle.model.specs.declared.claims.Range.{Range}
+use Rattle.model.specs.Facts.{exactly}
+use Rattle.facts.specs.Known.{rangesOf}
+use Rattle.edge_ranges.specs.Changes.{Makes}
+use Rattle.edge_ranges.proofs.unchanged.Statement.{statement}
+use Rattle.edge_ranges.proofs.unchanged.Tie as tie
+
+range-at-requires : tie.Need-range-at-requires
+range-at-requires c κs = search needs
+
+one-requires : tie.Need-one-requires
+one-requires c κs = search needs
+
+returns : tie.Need-returns
+returns c =
+    let a = c .before .before .args in
+    let rs : List Range = rangesOf (a .low .now) (a .high .now) in
+    subst (Makes (c .one .result) rs) (ap (set rs 0) (c .before .range-at .ensures .0) ∙ set-getD rs 0 (exactly 0)) (c .one .ensures rs)
+
+pub unchanged-spec : {M : Type 1} → statement M
+unchanged-spec = tie.close (tie.spec range-at-requires one-requires returns)

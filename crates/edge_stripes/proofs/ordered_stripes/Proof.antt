@@ -1,0 +1,33 @@
+-- The edge chooses the rule. Assumes nothing.
+use borrow.Author.Needs.{needs}
+use Rattle.edge_stripes.proofs.ordered_stripes.Statement.{statement}
+use Rattle.edge_stripes.proofs.ordered_stripes.Tie as tie
+
+enum-told : tie.Need-enum-told
+enum-told c = search needs
+
+not-less-stripes-requires : tie.Need-not-less-stripes-requires
+not-less-stripes-requires c κs = search needs
+
+enum-known-e : tie.Need-enum-known-e
+enum-known-e c = search needs
+
+less-stripes-requires : tie.Need-less-stripes-requires
+less-stripes-requires c κs = search needs
+
+returns : tie.Need-returns
+returns c = rw (c .before .enum-told .given .1) (c .not-less-stripes .ensures)
+
+returns-2 : tie.Need-returns-2
+returns-2 c = rw (c .before .before .e .given .1) (c .less-stripes .ensures)
+
+pub ordered-stripes-spec : {M : Type 1} → statement M
+ordered-stripes-spec =
+    tie.close
+    (tie.spec
+    enum-told
+    not-less-stripes-requires
+    enum-known-e
+    less-stripes-requires
+    returns
+    returns-2)

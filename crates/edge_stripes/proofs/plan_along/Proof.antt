@@ -1,0 +1,192 @@
+-- Each arm is the clause of the definition for its instruction. Assumes nothing.
+use borrow.Author.Needs.{needs}
+use mathlib.Core.Path.{_∙_}
+use mathlib.Core.List.{List}
+use native.Mathlib.Omega.{arith}
+use Rattle.model.specs.declared.claims.Range.{Range}
+use Rattle.model.specs.Transfer.{stripesAlong}
+use Rattle.facts.specs.Known.{rangesOf}
+use Rattle.edge_ranges.proofs.Transfers.{ordered-stripes, matched-stripes}
+use Rattle.edge_stripes.proofs.plan_along.Statement.{statement}
+use Rattle.edge_stripes.proofs.plan_along.Tie as tie
+
+enum-told : tie.Need-enum-told
+enum-told c = search needs
+
+all-requires : tie.Need-all-requires
+all-requires c κs = search needs
+
+enum-known-i : tie.Need-enum-known-i
+enum-known-i c = search needs
+
+dropped-requires : tie.Need-dropped-requires
+dropped-requires c κs =
+    let h = rw (c .before .i .given .1) at (c .before .before .before .pre .1) in
+    omega arith
+
+enum-known-i-2 : tie.Need-enum-known-i-2
+enum-known-i-2 c = search needs
+
+copy-stripes-requires : tie.Need-copy-stripes-requires
+copy-stripes-requires c κs =
+    let h = rw (c .before .i2 .given .1) at (c .before .before .before .pre .1) in
+    omega arith
+
+enum-known-i-3 : tie.Need-enum-known-i-3
+enum-known-i-3 c = search needs
+
+stripes-of-sum-requires : tie.Need-stripes-of-sum-requires
+stripes-of-sum-requires c κs = (c .before .before .before .pre .0, rw (c .before .i3 .given .1) at (c .before .before .before .pre .1))
+
+enum-known-i-4 : tie.Need-enum-known-i-4
+enum-known-i-4 c = search needs
+
+stripes-of-difference-requires : tie.Need-stripes-of-difference-requires
+stripes-of-difference-requires c κs = (c .before .before .before .pre .0, rw (c .before .i4 .given .1) at (c .before .before .before .pre .1))
+
+enum-known-i-5 : tie.Need-enum-known-i-5
+enum-known-i-5 c = search needs
+
+stripes-of-product-requires : tie.Need-stripes-of-product-requires
+stripes-of-product-requires c κs = (c .before .before .before .pre .0, rw (c .before .i5 .given .1) at (c .before .before .before .pre .1))
+
+enum-known-i-6 : tie.Need-enum-known-i-6
+enum-known-i-6 c = search needs
+
+dropped-requires-2 : tie.Need-dropped-requires-2
+dropped-requires-2 c κs =
+    let h = rw (c .before .i6 .given .1) at (c .before .before .before .pre .1) in
+    omega arith
+
+enum-known-i-7 : tie.Need-enum-known-i-7
+enum-known-i-7 c = search needs
+
+dropped-requires-3 : tie.Need-dropped-requires-3
+dropped-requires-3 c κs =
+    let h = rw (c .before .i7 .given .1) at (c .before .before .before .pre .1) in
+    omega arith
+
+enum-known-i-8 : tie.Need-enum-known-i-8
+enum-known-i-8 c = search needs
+
+all-requires-2 : tie.Need-all-requires-2
+all-requires-2 c κs = search needs
+
+enum-known-i-9 : tie.Need-enum-known-i-9
+enum-known-i-9 c = search needs
+
+all-requires-3 : tie.Need-all-requires-3
+all-requires-3 c κs = search needs
+
+enum-known-i-10 : tie.Need-enum-known-i-10
+enum-known-i-10 c = search needs
+
+ordered-stripes-requires : tie.Need-ordered-stripes-requires
+ordered-stripes-requires c κs =
+    let h = rw (c .before .i10 .given .1) at (c .before .before .before .pre .1) in
+    (h .variable, h .operand)
+
+enum-known-i-11 : tie.Need-enum-known-i-11
+enum-known-i-11 c = search needs
+
+matched-stripes-requires : tie.Need-matched-stripes-requires
+matched-stripes-requires c κs =
+    let h = rw (c .before .i11 .given .1) at (c .before .before .before .pre .1) in
+    (h .variable, h .operand)
+
+returns : tie.Need-returns
+unfolding stripesAlong
+returns c = rw (c .before .enum-told .given .1) (c .all .ensures)
+
+returns-2 : tie.Need-returns-2
+unfolding stripesAlong
+returns-2 c = rw (c .before .before .i .given .1) (c .dropped .ensures)
+
+returns-3 : tie.Need-returns-3
+unfolding stripesAlong
+returns-3 c = rw (c .before .before .i2 .given .1) (c .copy-stripes .ensures)
+
+returns-4 : tie.Need-returns-4
+unfolding stripesAlong
+returns-4 c = rw (c .before .before .i3 .given .1) (c .stripes-of-sum .ensures)
+
+returns-5 : tie.Need-returns-5
+unfolding stripesAlong
+returns-5 c = rw (c .before .before .i4 .given .1) (c .stripes-of-difference .ensures)
+
+returns-6 : tie.Need-returns-6
+unfolding stripesAlong
+returns-6 c = rw (c .before .before .i5 .given .1) (c .stripes-of-product .ensures)
+
+returns-7 : tie.Need-returns-7
+unfolding stripesAlong
+returns-7 c = rw (c .before .before .i6 .given .1) (c .dropped2 .ensures)
+
+returns-8 : tie.Need-returns-8
+unfolding stripesAlong
+returns-8 c = rw (c .before .before .i7 .given .1) (c .dropped3 .ensures)
+
+returns-9 : tie.Need-returns-9
+unfolding stripesAlong
+returns-9 c = rw (c .before .before .i8 .given .1) (c .all2 .ensures)
+
+returns-10 : tie.Need-returns-10
+unfolding stripesAlong
+returns-10 c = rw (c .before .before .i9 .given .1) (c .all3 .ensures)
+
+returns-11 : tie.Need-returns-11
+returns-11 c =
+    let a = c .before .before .before .before .args in
+    let rs : List Range = rangesOf (a .low .now) (a .high .now) in
+    let told = c .before .before .i10 .given in
+    let does = c .ordered-stripes .ensures in
+    rw (told .1) (record { same = λ ss. does .same ss ∙ ordered-stripes _ _ _ _ rs ss; shift = does .shift; front = does .front })
+
+returns-12 : tie.Need-returns-12
+returns-12 c =
+    let a = c .before .before .before .before .args in
+    let rs : List Range = rangesOf (a .low .now) (a .high .now) in
+    let told = c .before .before .i11 .given in
+    let does = c .matched-stripes .ensures in
+    rw (told .1) (record { same = λ ss. does .same ss ∙ matched-stripes _ _ _ _ rs ss; shift = does .shift; front = does .front })
+
+pub plan-along-spec : {M : Type 1} → statement M
+plan-along-spec =
+    tie.close
+    (tie.spec
+    enum-told
+    all-requires
+    enum-known-i
+    dropped-requires
+    enum-known-i-2
+    copy-stripes-requires
+    enum-known-i-3
+    stripes-of-sum-requires
+    enum-known-i-4
+    stripes-of-difference-requires
+    enum-known-i-5
+    stripes-of-product-requires
+    enum-known-i-6
+    dropped-requires-2
+    enum-known-i-7
+    dropped-requires-3
+    enum-known-i-8
+    all-requires-2
+    enum-known-i-9
+    all-requires-3
+    enum-known-i-10
+    ordered-stripes-requires
+    enum-known-i-11
+    matched-stripes-requires
+    returns
+    returns-2
+    returns-3
+    returns-4
+    returns-5
+    returns-6
+    returns-7
+    returns-8
+    returns-9
+    returns-10
+    returns-11
+    returns-12)

@@ -1,0 +1,57 @@
+-- None, one or two rows. Assumes nothing.
+use borrow.Author.Needs.{needs}
+use native.Mathlib.Omega.{arith}
+use Rattle.edge_stripes.proofs.Extending.{extends-none, extends-both}
+use Rattle.edge_stripes.proofs.put_added.Statement.{statement}
+use Rattle.edge_stripes.proofs.put_added.Tie as tie
+
+enum-told : tie.Need-enum-told
+enum-told c = search needs
+
+enum-known-a : tie.Need-enum-known-a
+enum-known-a c = search needs
+
+put-requires : tie.Need-put-requires
+put-requires c κs =
+    let start = c .before .before .before .before in
+    let h = rw (c .before .before .a .given .1) at (start .pre .1) in
+    (start .pre .0, (omega arith, record { plus = omega arith; minus = omega arith }))
+
+enum-known-a-2 : tie.Need-enum-known-a-2
+enum-known-a-2 c = search needs
+
+put-requires-2 : tie.Need-put-requires-2
+put-requires-2 c κs =
+    let start = c .before .before .before .before in
+    let h = rw (c .before .before .a2 .given .1) at (start .pre .1) in
+    (start .pre .0, (omega arith, record { plus = omega (arith, h .0 .plus); minus = omega (arith, h .0 .minus) }))
+
+put-requires-3 : tie.Need-put-requires-3
+put-requires-3 c κs =
+    let h = rw (c .before .before .before .before .a2 .given .1) at (c .before .before .before .before .before .before .pre .1) in
+    (c .before .put2 .ensures .0 .sized, (omega (arith, c .before .put2 .ensures .1), record { plus = omega (arith, h .1 .plus); minus = omega (arith, h .1 .minus) }))
+
+returns : tie.Need-returns
+returns c =
+    let start = c .before .before in
+    (rw (c .enum-told .given .1) (extends-none (start .args .stripes .now) 0 (start .pre .0)), omega arith)
+
+returns-2 : tie.Need-returns-2
+returns-2 c = (rw (c .before .before .before .a .given .1) (c .put .ensures .0), omega (arith, c .put .ensures .1))
+
+returns-3 : tie.Need-returns-3
+returns-3 c = (rw (c .before .before .before .before .before .a2 .given .1) (extends-both (c .before .before .put2 .ensures .0) (c .put3 .ensures .0)), omega (arith, c .put3 .ensures .1, c .before .before .put2 .ensures .1))
+
+pub put-added-spec : {M : Type 1} → statement M
+put-added-spec =
+    tie.close
+    (tie.spec
+    enum-told
+    enum-known-a
+    put-requires
+    enum-known-a-2
+    put-requires-2
+    put-requires-3
+    returns
+    returns-2
+    returns-3)

@@ -1,0 +1,69 @@
+-- The new stripes after the first m are what is kept of the first i. Assumes nothing.
+use mathlib.Core.Path.{_≡_, sym, subst}
+use Prim.Native.Nat.{ℕ, _+_, _-_, _≤_}
+use native.Mathlib.Omega.{arith}
+use Rattle.model.specs.Limits.{greatestBound}
+use Rattle.facts.specs.Known.{stripesOf, Small}
+use Rattle.edge_stripes.specs.Plans.{keptOf, Extends}
+use Rattle.edge_stripes.proofs.Extending.{kept-none, kept-more, standing-small}
+use Rattle.edge_stripes.proofs.put_all.Statement.{statement}
+use Rattle.edge_stripes.proofs.put_all.Tie as tie
+
+abbrev Inv-loop : tie.InvT-loop
+Inv-loop k stripes n new-rows₀ m r₀ i₀ new-rows r i = (i ≤ n) × (r ≤ m + i) × Extends new-rows₀ m new-rows r (keptOf k (stripesOf stripes i))
+
+abbrev μ-loop : tie.MeasureT-loop
+μ-loop k stripes n new-rows₀ m r₀ i₀ new-rows r i = n - i
+
+loop-holds : tie.Need-loop-holds Inv-loop μ-loop
+loop-holds c =
+    let a = c .args in
+    (omega arith, omega arith, kept-none (a .k) (a .stripes .now) (a .new-rows .now) (a .m) (c .pre .1 .1 .0))
+
+row-at-requires : tie.Need-row-at-requires Inv-loop μ-loop
+row-at-requires c κs =
+    let start = c .before .before in
+    let at = c .before .loop in
+    (omega (arith, start .pre .1 .0 .few), start .pre .1 .0 .bytes (at .i) (omega arith))
+
+put-kept-requires : tie.Need-put-kept-requires Inv-loop μ-loop
+put-kept-requires c κs =
+    let start = c .before .before .before .before in
+    let a = start .args in
+    let at = c .before .before .before .loop in
+    let standing = start .pre .1 .0 in
+    (subst (Small greatestBound) (sym (c .before .row-at .ensures)) (standing-small (a .stripes .now) (a .n) (at .i) standing (omega arith)), (start .pre .0, (at .inv .2 .sized, omega (arith, standing .few, start .pre .1 .1 .1))))
+
+add-i : tie.Need-add-i Inv-loop μ-loop
+add-i c = omega arith
+
+loop-less : tie.Need-loop-less Inv-loop μ-loop
+loop-less c = omega arith
+
+loop-again : tie.Need-loop-again Inv-loop μ-loop
+loop-again c =
+    let a = c .before .before .before .before .before .args in
+    let at = c .before .before .before .before .loop in
+    (omega arith, omega (arith, c .put-kept .ensures .1), kept-more (a .k) (a .stripes .now) (at .i) (c .before .before .row-at .result) (c .before .before .row-at .ensures) (at .inv .2) (c .put-kept .ensures .0))
+
+returns : tie.Need-returns Inv-loop μ-loop
+returns c =
+    let start = c .before .before in
+    let a = start .args in
+    let at = c .before .loop in
+    let done : at .i ≡ a .n = omega arith in
+    (subst (λ (j : ℕ). Extends (a .new-rows .now) (a .m) (at .new-rows) (at .r) (keptOf (a .k) (stripesOf (a .stripes .now) j))) done (at .inv .2), omega (arith, start .pre .1 .0 .few, start .pre .1 .1 .1))
+
+pub put-all-spec : {M : Type 1} → statement M
+put-all-spec =
+    tie.close
+    (tie.spec
+    Inv-loop
+    μ-loop
+    loop-holds
+    row-at-requires
+    put-kept-requires
+    add-i
+    loop-less
+    loop-again
+    returns)

@@ -1,0 +1,78 @@
+-- Each arm is the clause of the definition for one stripe. Assumes nothing.
+use borrow.Author.Needs.{needs}
+use mathlib.Core.Path.{sym, _∙_}
+use native.Mathlib.Omega.{arith}
+use Rattle.edge_stripes.proofs.Extending.{extends-none, named-one, unnamed-one, shifted-one, shifted-away}
+use Rattle.edge_stripes.proofs.put_kept.Statement.{statement}
+use Rattle.edge_stripes.proofs.put_kept.Tie as tie
+
+enum-told : tie.Need-enum-told
+enum-told c = search needs
+
+put-requires : tie.Need-put-requires
+put-requires c κs = search needs
+
+enum-known-k : tie.Need-enum-known-k
+enum-known-k c = search needs
+
+names-requires : tie.Need-names-requires
+names-requires c κs = search needs
+
+returns : tie.Need-returns
+returns c =
+    let start = c .before .before .before .before .before in
+    let a = start .args in
+    (rw (c .before .before .before .k .given .1, named-one (a .s) _ (sym (c .before .names .ensures) ∙ c .if1 .taken)) (extends-none (a .stripes .now) (a .m) (start .pre .1 .1 .0)), omega arith)
+
+put-requires-2 : tie.Need-put-requires-2
+put-requires-2 c κs = search needs
+
+enum-known-k-2 : tie.Need-enum-known-k-2
+enum-known-k-2 c = search needs
+
+shifted-requires : tie.Need-shifted-requires
+shifted-requires c κs = (c .before .before .before .pre .0, rw (c .before .k2 .given .1) at (c .before .before .before .pre .1 .0))
+
+bound-in-limits-requires : tie.Need-bound-in-limits-requires
+bound-in-limits-requires c κs = search needs
+
+put-requires-3 : tie.Need-put-requires-3
+put-requires-3 c κs = search needs
+
+returns-2 : tie.Need-returns-2
+returns-2 c =
+    let a = c .before .before .before .before .before .before .before .before .args in
+    (rw (c .before .before .before .before .before .before .k2 .given .1, shifted-one (a .s) _ _ _ (c .before .before .before .before .shifted .result) (c .before .before .before .before .shifted .ensures .0) (sym (c .before .before .before .bound-in-limits .ensures) ∙ c .before .before .if2 .taken)) (c .put3 .ensures .0), omega (arith, c .put3 .ensures .1))
+
+returns-3 : tie.Need-returns-3
+returns-3 c = (rw (c .before .before .enum-told .given .1) (c .put .ensures .0), omega (arith, c .put .ensures .1))
+
+returns-4 : tie.Need-returns-4
+returns-4 c =
+    let a = c .before .before .before .before .before .before .before .args in
+    (rw (c .before .before .before .before .before .k .given .1, unnamed-one (a .s) _ (sym (c .before .before .before .names .ensures) ∙ c .before .before .if1 .left)) (c .put2 .ensures .0), omega (arith, c .put2 .ensures .1))
+
+returns-5 : tie.Need-returns-5
+returns-5 c =
+    let start = c .before .before .before .before .before .before in
+    let a = start .args in
+    (rw (c .before .before .before .before .k2 .given .1, shifted-away (a .s) _ _ _ (c .before .before .shifted .result) (c .before .before .shifted .ensures .0) (sym (c .before .bound-in-limits .ensures) ∙ c .if2 .left)) (extends-none (a .stripes .now) (a .m) (start .pre .1 .1 .0)), omega arith)
+
+pub put-kept-spec : {M : Type 1} → statement M
+put-kept-spec =
+    tie.close
+    (tie.spec
+    enum-told
+    put-requires
+    enum-known-k
+    names-requires
+    returns
+    put-requires-2
+    enum-known-k-2
+    shifted-requires
+    bound-in-limits-requires
+    put-requires-3
+    returns-2
+    returns-3
+    returns-4
+    returns-5)
