@@ -19,8 +19,12 @@ pub const CONT: i32 = 18;
 const LONGEST: Duration = Duration::from_secs(20);
 const LATE: i32 = -1;
 
+/// What a signal does where nobody has said otherwise.
+const DEFAULT: usize = 0;
+
 extern "C" {
     fn kill(process: i32, signal: i32) -> i32;
+    fn signal(signal: i32, does: usize) -> usize;
 }
 
 /// What the program said, and its status: 128 and the signal's number where a signal ended it.
@@ -52,8 +56,23 @@ fn reading(from: Option<impl Read + Send + 'static>) -> Receiver<Vec<u8>> {
     receiver
 }
 
+/// Lets the signals that end a program end it, though whoever started these tests may have them ignored: a shell
+/// cannot trap a signal that it was started to ignore.
+fn hears_signals(command: &mut Command) {
+    let restore = || {
+        for number in [TERM, INT, HUP] {
+            // SAFETY: signal() takes any number, and may be called between fork and exec.
+            unsafe { signal(number, DEFAULT) };
+        }
+        Ok(())
+    };
+    // SAFETY: the closure only calls signal(), which may be called between fork and exec.
+    unsafe { command.pre_exec(restore) };
+}
+
 /// Starts the program. Its output is read unless the command says where it goes.
 pub fn start_with(command: &mut Command, output: Stdio) -> Running {
+    hears_signals(command);
     let mut child = command.process_group(0).stdout(output).stderr(Stdio::piped()).spawn().expect("it can be started");
     let (output, error) = (reading(child.stdout.take()), reading(child.stderr.take()));
     Running { child, output, error, since: Instant::now() }
