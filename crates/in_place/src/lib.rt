@@ -1,4 +1,4 @@
-// The second entry of the runner, which lends the state record and changes it in place. It is proved by a walk of its code by hand, and so
+// The runner's second entry: a state is lent to it and holds the new one afterwards. It is proved by a walk of its code by hand, and so
 // has a crate of its own.
 use model::machine::State;
 use runner::Ending;
