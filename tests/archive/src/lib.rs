@@ -106,7 +106,7 @@ pub fn claim_part(listing: &[u8], point: usize) -> ClaimPart {
     ClaimPart { number, place, offset, length }
 }
 
-/// The claim lines of a point as the part of the listing that holds them, empty where there are none.
+/// Where the claim lines of a point lie in the listing; of a point without claims, a part of length 0.
 pub fn claim_lines(listing: &[u8], point: usize) -> Result<&[u8], Refusal> {
     let ClaimPart { number, place, offset, length } = claim_part(listing, point);
     if number != 0 {
@@ -115,8 +115,8 @@ pub fn claim_lines(listing: &[u8], point: usize) -> Result<&[u8], Refusal> {
     Ok(&listing[offset as usize..][..length as usize])
 }
 
-/// Checks the listing and runs it from the state for at most `budget` steps. A refusal gives back the state with 0
-/// steps and leaves the results untouched.
+/// Checks the listing and runs it from the state for at most `budget` steps. After a refusal state and results are as
+/// they were, and no step was made.
 pub fn run(listing: &[u8], state: State, trays: &[u8], results: &mut [u8], budget: u32) -> Outcome {
     let mut registers = state.registers;
     let mut answer: RunAnswer = [0; 6];

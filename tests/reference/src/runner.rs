@@ -20,7 +20,7 @@ pub struct Run {
     pub steps: u64,
 }
 
-/// Runs at most `budget` steps. A refusal gives back the state with 0 steps and leaves the results untouched.
+/// Runs at most `budget` steps. After a refusal state and results are as they were, and no step was made.
 pub fn run(listing: &[u8], state: State, trays: &[u8], results: &mut [u8], budget: u32) -> Run {
     match runnable(listing, &state, trays, results) {
         Ok(listing) => steps(&listing, state, trays, results, u64::from(budget)),
