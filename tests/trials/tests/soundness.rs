@@ -1,4 +1,4 @@
-//! Listings that pass keep their word: from a state that meets the claims of its point, no step is the error
+//! Listings that pass keep their word: from a state that its point admits, no step is the error
 //! state and every state reached meets the claims of its point.
 
 use reference::{check, meets, read, run, step, Known, Listing, Outcome, State, Step, RESULTS_SIZE, TRAYS_SIZE};
