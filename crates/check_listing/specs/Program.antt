@@ -12,14 +12,14 @@ use Rattle.model.specs.Check.{check}
 use Rattle.model.specs.Output.{printed}
 
 -- the verdict: that of the bytes where the input ended after them, else that of an empty listing
-abbrev pub verdictOf : List ℕ → ℤ → Verdict
-verdictOf s (pos zero) = check s
-verdictOf s (pos (suc k)) = check []
-verdictOf s (negsuc k) = check []
+abbrev pub inputVerdict : List ℕ → ℤ → Verdict
+inputVerdict s (pos zero) = check s
+inputVerdict s (pos (suc k)) = check []
+inputVerdict s (negsuc k) = check []
 
 -- the line that is printed
-abbrev pub lineOf : List ℕ → ℤ → List ℕ
-lineOf s more = printed (verdictOf s more)
+abbrev pub verdictLine : List ℕ → ℤ → List ℕ
+verdictLine s more = printed (inputVerdict s more)
 
 -- the refusal that is explained
 abbrev pub Refuses : Verdict → Refusal → Type 0

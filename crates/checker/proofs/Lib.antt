@@ -1,5 +1,5 @@
-pub mod Judging
-pub mod Owing
-pub mod Losing
-pub mod Laying
-pub mod Checking
+pub mod FirstRefusal
+pub mod Owed
+pub mod LostClaims
+pub mod AccessNumbers
+pub mod Verdicts

@@ -1,19 +1,12 @@
 -- A listing that the code has read and judged by 1 to 14.
 use mathlib.Core.Path.{_≡_}
-use mathlib.Core.Bool.{Bool, true, false}
 use mathlib.Core.List.{List}
 use Prim.Native.Nat.{ℕ}
-use Rattle.model.specs.declared.answers.Judgement.{Judgement}
-use Rattle.model.specs.declared.answers.Judgement.the-variants.{Accepted, Refused as refused}
+use Rattle.model.specs.declared.answers.Judgement.the-variants.{Accepted}
 use Rattle.model.specs.Listing.{readAs, listingOf}
 use Rattle.model.specs.Check.{listingJudged}
 use Rattle.reader.specs.declared.listing.Listing.{Listing}
 use Rattle.reader.specs.Points.{pointsIn, Holds}
-
--- the judgement refuses
-abbrev pub isRefused : Judgement → Bool
-isRefused Accepted = false
-isRefused (refused r) = true
 
 -- the listing is read as n points, which rows and places hold
 pub record Held (s rows at : List ℕ) (n : ℕ) : Type 0 where

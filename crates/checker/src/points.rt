@@ -5,10 +5,11 @@ use decoded::decode::has_target;
 use decoded::decode::instruction_from;
 use facts::sizes::STRIPE_NUMBERS;
 use model::answers::Judgement;
+use model::answers::is_refused;
 use model::limits::VARIABLES;
 use model::machine::Edge;
+use reader::places::instruction_row;
 use reader::places::line_of;
-use reader::places::row_of;
 use reader::point_facts::facts_at;
 use reader::whole::goes_on;
 ghost use mathlib.Core.Path.{_≡_};
@@ -17,17 +18,6 @@ ghost use Rattle.model.specs.Check;
 ghost use Rattle.facts.specs.StripeRows.{SizedRows};
 ghost use Rattle.facts.specs.Known.{Standing};
 ghost use Rattle.reader.specs.Points.{pointIn, pointsIn, Holds};
-ghost use Rattle.checker.specs.Judged.{isRefused};
-
-// Whether a judgement refuses.
-fn is_refused(j: Judgement) -> bool
-    ensures { λ r. ⌜ r ≡ isRefused j ⌝ }
-{
-    match j {
-        Judgement::Accepted => false,
-        Judgement::Refused(_) => true,
-    }
-}
 
 // Everything that point p of n owes, in order. The arrays are lent to be written in; an edge changes the ends, so before the target's the facts are written again.
 fn point_judged<'a>(
@@ -45,7 +35,7 @@ fn point_judged<'a>(
     ensures { λ r. ⌜ r ≡ Check.pointJudged (pointsIn (now (rows .entry)) (now (at .entry)) n) p (pointIn (now (rows .entry)) (now (at .entry)) p) ⌝ }
     ensures { λ r. ⌜ Standing (now (stripes .exit)) 0 × SizedRows (now («edge_stripes» .exit)) ⌝ }
 {
-    let r = row_of(rows, at, p);
+    let r = instruction_row(rows, at, p);
     let i = instruction_from(r);
     let line = line_of(at, p);
     let m = facts_at(rows, at, p, low, high, stripes);

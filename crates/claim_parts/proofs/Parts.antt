@@ -19,13 +19,13 @@ use Rattle.model.specs.Listing as model
 use Rattle.model.proofs.Tests.{cond-cases}
 use Rattle.model.proofs.Lists.{All, all-snoc, all-at}
 use Rattle.model.proofs.Reading.{PointLimited, well-formed}
-use Rattle.model.proofs.Parts.{part-judged, part-lines}
+use Rattle.model.proofs.ClaimPart.{part-judged, part-lines}
 use Rattle.decoded.proofs.Claims.{claims-count}
 use Rattle.reader.specs.declared.listing.Listing.{Listing}
 use Rattle.reader.specs.Points.{numberIn, firstIn, pointIn, Placed}
 use Rattle.reader.specs.Listing.{Stands}
-use Rattle.reader.proofs.Keeping.{lineRead}
-use Rattle.reader.proofs.Points.{points-count, points-at}
+use Rattle.reader.proofs.RowsAndPlaces.{lineRead}
+use Rattle.reader.proofs.PlacedPoints.{points-count, points-at}
 
 -- the point's line is one of the first n
 abbrev Inside : ℕ → Point → Type 0

@@ -1,4 +1,4 @@
 pub mod Digits
-pub mod Joining
-pub mod Setting
+pub mod FourBytes
+pub mod WrittenColumns
 pub mod Shapes

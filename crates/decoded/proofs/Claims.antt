@@ -14,12 +14,12 @@ use Rattle.model.specs.declared.answers.Refusal.the-variants.{ListingLength}
 use Rattle.decoded.specs.declared.rows.Row.{Row}
 use Rattle.decoded.specs.Kinds.{REFUSED, LEAS, MOST, STRP}
 use Rattle.decoded.specs.Rows.{rowAt, withRow}
-use Rattle.decoded.specs.Decoded.{instructionFrom, stripeFrom, claimFrom, claimsFrom, lineFrom}
-use Rattle.decoded.proofs.Written.{row-other}
+use Rattle.decoded.specs.Decoded.{instructionFrom, stripeFrom, claimFrom, claimsFrom, lineOfRow}
+use Rattle.decoded.proofs.WrittenRows.{row-other}
 
 -- where a row holds a claim, it is this one
-pub claim-held : (r : Row) (x : Claim) → lineFrom r ≡ claimLine x → claimFrom r ≡ x
-unfolding lineFrom claimFrom
+pub claim-held : (r : Row) (x : Claim) → lineOfRow r ≡ claimLine x → claimFrom r ≡ x
+unfolding lineOfRow claimFrom
 claim-held r x e = go (eqb (r .kind) STRP) (eqb (r .kind) LEAS) (eqb (r .kind) MOST) (eqb (r .kind) REFUSED) e
   where
     go : (a b c d : Bool)

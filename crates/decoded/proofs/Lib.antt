@@ -1,4 +1,4 @@
-pub mod Written
-pub mod Decoding
-pub mod ByKind
+pub mod WrittenRows
+pub mod RowLines
+pub mod RowInstructions
 pub mod Claims

@@ -68,9 +68,9 @@ claimsFrom rows from zero = []
 claimsFrom rows from (suc n) = claimsFrom rows from n ++ (claimFrom (rowAt rows (from + n)) ∷ [])
 
 -- the line of a row
-unfoldable pub lineFrom : Row → Line
+unfoldable pub lineOfRow : Row → Line
 unfolding instructionFrom
-lineFrom r =
+lineOfRow r =
     cond (eqb (r .kind) STRP) (claimLine (Strp (stripeFrom r)))
     (cond (eqb (r .kind) LEAS) (claimLine (Leas (r .first) (r .sixth)))
     (cond (eqb (r .kind) MOST) (claimLine (Most (r .first) (r .sixth)))

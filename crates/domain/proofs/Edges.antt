@@ -15,9 +15,9 @@ use Rattle.facts.specs.Ends.{SizedEnds}
 use Rattle.edge_ranges.specs.declared.Changes.{Changes}
 use Rattle.facts.specs.Known.{rangesOf, stripesOf, known, High, Ends}
 use Rattle.edge_ranges.specs.Changes.{Makes}
-use Rattle.facts.proofs.Held.{high-held, range-set}
-use Rattle.facts.proofs.Points.{ends-even}
-use Rattle.edge_ranges.proofs.Transfers.{along-high}
+use Rattle.facts.proofs.ArrayContents.{high-held, range-set}
+use Rattle.facts.proofs.PointArrays.{ends-even}
+use Rattle.edge_ranges.proofs.HighEnds.{along-high}
 
 -- the ends of a point are values of a register, so its high ends are
 high-ends : (low high : List ℕ) → Ends low high → High (rangesOf low high)

@@ -5,7 +5,7 @@ use edge_ranges::changes_along;
 use edge_stripes::carry_out;
 use edge_stripes::plan_along;
 use facts::sizes::STRIPE_NUMBERS;
-use facts::stripe_rows::write_row;
+use facts::stripe_rows::write_stripe;
 use model::claims::Claim;
 use model::claims::Range;
 use model::limits::RESULTS_SIZE;
@@ -66,7 +66,7 @@ pub fn with_claim<'a>(
             n
         }
         Claim::Strp(s) => {
-            write_row(stripes, n, s);
+            write_stripe(stripes, n, s);
             n + 1
         }
     }

@@ -5,7 +5,7 @@ use edge_ranges::product_fits;
 use edge_ranges::range_at;
 use edge_ranges::sum_fits;
 use facts::sizes::STRIPE_NUMBERS;
-use facts::stripe_rows::write_row;
+use facts::stripe_rows::write_stripe;
 use model::claims::Stripe;
 use model::limits::BLANK_VARIABLE;
 use model::limits::GREATEST_BOUND;
@@ -438,7 +438,7 @@ pub fn plan_along<'a>(
 }
 
 // The i-th row as a stripe.
-fn row_at(stripes: &[u64; STRIPE_NUMBERS], i: usize) -> Stripe
+fn stripe_at(stripes: &[u64; STRIPE_NUMBERS], i: usize) -> Stripe
     requires { ⌜ (i < goal.edgeStripes) × Bytes (stripeAt (now stripes) i) ⌝ }
     ensures { λ s. ⌜ s ≡ stripeAt (now (stripes .entry)) i ⌝ }
 {
@@ -459,7 +459,7 @@ fn put(stripes: &mut [u64; STRIPE_NUMBERS], m: usize, s: Stripe) -> usize
     requires { ⌜ (m < goal.edgeStripes) × goal.Small s ⌝ }
     ensures { λ r. ⌜ Extends (now (stripes .entry)) m (now (stripes .exit)) r (s ∷ []) × (r ≡ m + 1) ⌝ }
 {
-    write_row(stripes, m, s);
+    write_stripe(stripes, m, s);
     m + 1
 }
 
@@ -522,7 +522,7 @@ fn put_all<'a>(
     let mut r = m;
     let mut i = 0;
     while i < n {
-        r = put_kept(k, row_at(stripes, i), new_rows, r);
+        r = put_kept(k, stripe_at(stripes, i), new_rows, r);
         i += 1;
     }
     r

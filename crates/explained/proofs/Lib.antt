@@ -1,3 +1,3 @@
-pub mod Showing
-pub mod Trimming
-pub mod Wording
+pub mod ShownLine
+pub mod TrimmedText
+pub mod Words

@@ -6,10 +6,6 @@ use Rattle.model.specs.declared.machine.State.{State}
 use Rattle.model.specs.Run.{Ran}
 use Rattle.output.specs.Arrays.{runAnswer}
 
--- a state from its parts
-abbrev pub state : ℕ → List ℕ → State
-state p rs = record { point = p; registers = rs }
-
 -- the registers, the results and the answer hold what the run hands back
 pub record RunAnswered (r : Ran) (rs bytes numbers : List ℕ) : Type 0 where
   pub registers : rs ≡ r .outcome .state .registers

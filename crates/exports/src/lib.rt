@@ -13,7 +13,8 @@ ghost use Rattle.model.specs.Output.{printed};
 ghost use Rattle.model.specs.Machine.{lent};
 ghost use Rattle.model.specs.Run as Run;
 ghost use Rattle.output.specs.Arrays.{answerOf, partAnswer, runAnswer};
-ghost use Rattle.exports.specs.Answer.{state, RunAnswered, RunAnsweredInPlace};
+ghost use Rattle.runner.specs.Runs.{state};
+ghost use Rattle.exports.specs.Answer.{RunAnswered, RunAnsweredInPlace};
 
 // The checker's answer for a listing: number, place, second place, points.
 #[no_mangle]

@@ -1,5 +1,5 @@
 -- Laws that belong to no one function.
 pub mod Search
-pub mod Written
-pub mod Held
-pub mod Points
+pub mod WrittenArrays
+pub mod ArrayContents
+pub mod PointArrays

@@ -14,7 +14,7 @@ pub fn wide(v: u8) -> u64
 }
 
 // Writes the i-th row.
-pub fn write_row(rows: &mut [u64; STRIPE_NUMBERS], i: usize, s: Stripe)
+pub fn write_stripe(rows: &mut [u64; STRIPE_NUMBERS], i: usize, s: Stripe)
     requires { ⌜ SizedRows (now rows) ⌝ }
     requires { ⌜ (i < edgeStripes) × Small s ⌝ }
     ensures { λ r. ⌜ (now (rows .exit) ≡ withRow (now (rows .entry)) i s) × SizedRows (now (rows .exit)) ⌝ }

@@ -1,9 +1,9 @@
 -- Laws that belong to no one function.
-pub mod Easier
-pub mod Agrees
-pub mod LinkWritten
-pub mod Best
-pub mod Added
-pub mod Grown
-pub mod Cases
-pub mod Turned
+pub mod SmallerBounds
+pub mod GoalOfFacts
+pub mod WrittenLink
+pub mod BetterLinks
+pub mod AddedLink
+pub mod LinkRows
+pub mod FollowsCases
+pub mod ExchangedVariables

@@ -5,33 +5,26 @@ use crate::links::touches;
 use crate::standing::stands;
 use facts::ends::end_of;
 use facts::sizes::STRIPE_NUMBERS;
+use facts::sizes::scaled;
 use facts::stripe_rows::wide;
 use model::claims::Claim;
 use model::claims::Stripe;
 use model::limits::GREATEST_LINKS;
 use model::limits::VARIABLES;
 ghost use mathlib.Core.Path.{_≡_};
-ghost use Prim.Native.Nat.{_+_, _*_, _≤_, _<_};
+ghost use Prim.Native.Nat.{_+_, _≤_, _<_};
 ghost use Rattle.model.specs.Limits.{MAX, greatestLinks};
 ghost use Rattle.model.specs.Facts.{Facts};
 ghost use Rattle.model.specs.Transfer.{stripe};
 ghost use Rattle.model.specs.Follows;
 ghost use Rattle.model.specs.Follows.{claimFollows};
 ghost use Rattle.model.specs.Limited.{ClaimLimited};
-ghost use Rattle.facts.specs.Sizes.{greatestPart, greatestStep, Small, Room};
+ghost use Rattle.facts.specs.Sizes.{Small, Room};
 ghost use Rattle.facts.specs.Ends.{SizedEnds};
 ghost use Rattle.goals.specs.Links.{linkAt};
 ghost use Rattle.facts.specs.Laid.{Laid, Sized};
 ghost use Rattle.goals.specs.Goal.{Near, Linked, atOnce, byLink, bySomeLink};
 ghost use Rattle.goals.specs.Goal;
-
-// a * n, for a number n that is small enough.
-fn scaled(a: u8, n: u64) -> u64
-    requires { ⌜ n ≤ greatestPart ⌝ }
-    ensures { λ r. ⌜ (r ≡ a * n) × (r ≤ greatestStep) ⌝ }
-{
-    a as u64 * n
-}
 
 // Whether the ends alone show the goal; low is the low end of its x.
 fn by_ends(
@@ -49,7 +42,7 @@ fn by_ends(
     ensures { λ r. ⌜ r ≡ Goal.byEnds low (now (high .entry)) (stripe x a y z plus minus) ⌝ }
 {
     let top = end_of(high, y as usize) + end_of(high, z as usize);
-    scaled(a, top) + plus <= low + minus
+    scaled(a as u64, top) + plus <= low + minus
 }
 
 // Whether the goal follows with no link.
@@ -193,8 +186,8 @@ fn through<'a>(
     let at = i * 4;
     let v = links[at];
     let u = links[at + 1];
-    let more = plus + scaled(a, links[at + 3]);
-    let less = minus + scaled(a, links[at + 2]);
+    let more = plus + scaled(a as u64, links[at + 3]);
+    let less = minus + scaled(a as u64, links[at + 2]);
     if v == y {
         return follows(
             low,

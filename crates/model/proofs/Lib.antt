@@ -8,9 +8,9 @@ pub mod Transfer
 pub mod Lists
 pub mod Limited
 pub mod Reading
-pub mod Parts
+pub mod ClaimPart
 pub mod Facts
-pub mod Stepping
+pub mod OneStep
 pub mod Steps
 pub mod Runs
 pub mod Safety

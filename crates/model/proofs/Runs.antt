@@ -15,7 +15,7 @@ use Rattle.model.specs.Machine.{Config, valueOf, operandValue, bytesOf, 
 use Rattle.model.specs.Instructions.{isStop}
 use Rattle.model.specs.Run.{Progress, advanced, runFor, atStop}
 use Rattle.model.proofs.Tests.{cond-cases}
-use Rattle.model.proofs.Stepping.{Good, StepGood}
+use Rattle.model.proofs.OneStep.{Good, StepGood}
 use Rattle.model.proofs.Steps.{Passes, step-kept}
 
 -- a step is made from every instruction but STOP

@@ -21,7 +21,7 @@ use Rattle.model.proofs.Lists.{all-at}
 use Rattle.model.proofs.Meaning.{Met, met, meets-met}
 use Rattle.model.proofs.Facts.{facts-long, top, top-claimed, Bounded, met-bounded}
 use Rattle.model.proofs.Reading.{accepted-both, passed-test, PointLimited, well-formed}
-use Rattle.model.proofs.Stepping.{Typed, size-value, Good, StepGood}
+use Rattle.model.proofs.OneStep.{Typed, size-value, Good, StepGood}
 use Rattle.model.proofs.Steps.{Passes, each-accepted, step-kept, reached-all}
 use Rattle.model.proofs.Runs.{ran}
 use Rattle.model.proofs.Runs

@@ -14,7 +14,7 @@ use Rattle.model.specs.Machine.{Config, Step, next, stopped, errorState,
 use Rattle.model.specs.Check.{pointJudged, pointsJudged}
 use Rattle.model.proofs.Lists.{all-at}
 use Rattle.model.proofs.Reading.{both-accepted, PointLimited, WellFormed}
-use Rattle.model.proofs.Stepping.{Good, StepGood, step-good}
+use Rattle.model.proofs.OneStep.{Good, StepGood, step-good}
 
 -- k steps and then j are k + j steps
 pub steps-add : (ps : List Point) (k j : ℕ) (m : Machine) → steps ps (k + j) m ≡ steps ps j (steps ps k m)

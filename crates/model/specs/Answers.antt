@@ -1,5 +1,6 @@
 -- Document 01, 'Turned back, in checking order': the number, the place and the second place of each refusal.
 use Prim.Native.Nat.{ℕ}
+use mathlib.Core.Bool.{Bool, true, false}
 use Rattle.model.specs.Types.{Refusal, ListingLength, LineBytes, UnknownWord, FieldShape, NumberLimits, ClaimOrder, LastLineClaim, TooManyPoints, NoSuchTarget, NoEnd, EmptyStart, DivisorMayBeZero, AccessMayLeave, ClaimMayFail, TableLength, NoSuchPoint, ClaimsNotMet, Judgement, Accepted, refused}
 
 -- the number of a refusal
@@ -61,6 +62,11 @@ secondPlaceOf (ClaimMayFail l c) = c
 secondPlaceOf TableLength = 0
 secondPlaceOf NoSuchPoint = 0
 secondPlaceOf ClaimsNotMet = 0
+
+-- whether a judgement turns back
+abbrev pub isRefused : Judgement → Bool
+isRefused Accepted = false
+isRefused (refused r) = true
 
 -- of two tests made in order, the first refusal
 abbrev pub _andThen_ : Judgement → Judgement → Judgement

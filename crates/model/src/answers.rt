@@ -1,5 +1,7 @@
 // The answers: why something is turned back, what the checker says, where claim lines stand, how a run ended.
 use crate::machine::State;
+ghost use mathlib.Core.Path.{_≡_};
+ghost use Rattle.model.specs.Answers.{isRefused};
 
 // Why a listing, a state or a call is turned back: a case for each number from 1 to 17, in their order, with the lines that it names.
 pub enum Refusal {
@@ -26,6 +28,16 @@ pub enum Refusal {
 pub enum Judgement {
     Accepted,
     Refused(Refusal),
+}
+
+// Whether a judgement turns back.
+pub fn is_refused(j: Judgement) -> bool
+    ensures { λ r. ⌜ r ≡ isRefused j ⌝ }
+{
+    match j {
+        Judgement::Accepted => false,
+        Judgement::Refused(_) => true,
+    }
 }
 
 // The checker's answer: the number of points of a passed listing, or the refusal.

@@ -19,6 +19,15 @@ pub enum Operand {
     Number(u32),
 }
 
+// An access: so many bytes of a table, from a * i + k on.
+pub struct Access {
+    pub table: Table,
+    pub w: Width,
+    pub a: usize,
+    pub i: usize,
+    pub k: usize,
+}
+
 // An instruction, a case for each word.
 pub enum Instruction {
     Stop,

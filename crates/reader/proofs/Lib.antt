@@ -1,7 +1,7 @@
-pub mod Scanning
-pub mod Points
-pub mod Keeping
-pub mod Gathering
-pub mod Wholes
-pub mod Reading
-pub mod Listings
+pub mod LineOrder
+pub mod PlacedPoints
+pub mod RowsAndPlaces
+pub mod GatheredClaims
+pub mod WholeListing
+pub mod ReadLine
+pub mod ReadListing

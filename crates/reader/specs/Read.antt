@@ -9,7 +9,7 @@ use Rattle.model.specs.declared.claims.Claim.{Claim}
 use Rattle.model.specs.declared.claims.Line.{Line}
 use Rattle.model.specs.Limits.{greatestPoints}
 use Rattle.model.specs.Listing.{Point, pointAt, Reading, going, refusedReading}
-use Rattle.decoded.specs.Decoded.{claimsFrom, lineFrom, kept}
+use Rattle.decoded.specs.Decoded.{claimsFrom, lineOfRow, kept}
 use Rattle.reader.specs.declared.read.Read.{Read}
 use Rattle.reader.specs.declared.scan.Scan.{Scan}
 use Rattle.reader.specs.declared.scan.Sort.{Sort}
@@ -22,7 +22,7 @@ use Rattle.reader.specs.Points.{lineIn, pointIn, ClaimRows, Placed}
 
 -- what is read of a line: a row that holds it, and its sort
 pub record ReadAs (l : Line) (x : Read) : Type 0 where
-  pub row : lineFrom (x .row) ≡ kept l
+  pub row : lineOfRow (x .row) ≡ kept l
   pub sort : x .sort ≡ sortOf l
 
 -- a line and a number of claims, written in place m

@@ -78,7 +78,7 @@ pub fn first_of(at: &[u16], p: usize) -> usize
 }
 
 // The row of point p's instruction.
-pub fn row_of<'a>(rows: &'a [u64], at: &'a [u16], p: usize) -> Row
+pub fn instruction_row<'a>(rows: &'a [u64], at: &'a [u16], p: usize) -> Row
     requires { ⌜ Placed (now rows) (now at) p ⌝ }
     ensures { λ r. ⌜ r ≡ rowAt (now (rows .entry)) (lineIn (now (at .entry)) p - 1) ⌝ }
 {

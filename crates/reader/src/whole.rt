@@ -1,6 +1,6 @@
 // The tests over the whole listing: refusals 7 to 11.
+use crate::places::instruction_row;
 use crate::places::line_of;
-use crate::places::row_of;
 use crate::point_facts::facts_at;
 use crate::scan::Scan;
 use decoded::decode::has_target;
@@ -95,7 +95,7 @@ fn targets_exist<'a>(rows: &'a [u64], at: &'a [u16], n: usize) -> Judgement
     let mut j = Judgement::Accepted;
     let mut p = 0;
     while p < n {
-        let r = row_of(rows, at, p);
+        let r = instruction_row(rows, at, p);
         j = and_then(j, own_target_exists(n, line_of(at, p), r));
         p += 1;
     }
@@ -107,7 +107,7 @@ fn last_judged<'a>(rows: &'a [u64], at: &'a [u16], lines: usize, n: usize) -> Ju
     requires { ⌜ AllPlaced (now rows) (now at) n × (1 ≤ n) ⌝ }
     ensures { λ r. ⌜ r ≡ endsInPlace lines (pointsIn (now (rows .entry)) (now (at .entry)) n) ⌝ }
 {
-    if goes_on(instruction_from(row_of(rows, at, n - 1))) {
+    if goes_on(instruction_from(instruction_row(rows, at, n - 1))) {
         return Judgement::Refused(Refusal::NoEnd { line: lines });
     }
     Judgement::Accepted

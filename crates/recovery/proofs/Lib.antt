@@ -1,2 +1,2 @@
-pub mod Naming
-pub mod Mending
+pub mod NewNames
+pub mod Stages

@@ -1,6 +1,6 @@
-pub mod Meeting
-pub mod Gathered
-pub mod States
-pub mod Running
+pub mod ClaimsMet
+pub mod GatheredRows
+pub mod StateJudged
+pub mod RunLoop
 pub mod Promise
-pub mod Counted
+pub mod PointCount

@@ -16,7 +16,7 @@ use model::limits::REGISTERS;
 use model::limits::TABLES;
 use model::limits::VARIABLES;
 use model::machine::State;
-use reader::places::row_of;
+use reader::places::instruction_row;
 use reader::point_facts::facts_at;
 use reader::sizes::ALL_ROWS;
 use reader::sizes::FEW_LISTING;
@@ -138,7 +138,7 @@ fn gather<'a>(rows: &'a [u64], at: &'a [u16], n: usize, code: &mut [u64])
 {
     let mut p = 0;
     while p < n {
-        let r = row_of(rows, at, p);
+        let r = instruction_row(rows, at, p);
         write_row(code, p, r);
         p += 1;
     }

@@ -1,10 +1,11 @@
 // Refusal 17: whether the values of all variables meet the facts of a point.
 use facts::sizes::STRIPE_NUMBERS;
+use facts::sizes::scaled;
 use model::limits::VARIABLES;
 ghost use mathlib.Core.Path.{_≡_};
-ghost use Prim.Native.Nat.{_*_, _≤_, _<_};
+ghost use Prim.Native.Nat.{_*_, _<_};
 ghost use lib.ListN.{length};
-ghost use Rattle.model.specs.Limits.{variables, MAX, greatestBound, greatestScale};
+ghost use Rattle.model.specs.Limits.{variables, MAX, greatestBound};
 ghost use Rattle.model.specs.Lists.{every};
 ghost use Rattle.model.specs.Facts as Model;
 ghost use Rattle.model.specs.Facts.{valueAt, stripeHolds};
@@ -62,14 +63,6 @@ fn value_at(values: &[u32; VARIABLES], v: u64) -> u64
         return wide(values[i]);
     }
     0
-}
-
-// A scale times the sum of two values.
-fn scaled(a: u64, n: u64) -> u64
-    requires { ⌜ (a < 256) × (n ≤ 8589934590) ⌝ }
-    ensures { λ r. ⌜ (r ≡ a * n) × (r ≤ greatestScale * n) ⌝ }
-{
-    a * n
 }
 
 // Whether the stripe of the i-th row holds.

@@ -1,5 +1,5 @@
-pub mod Lining
-pub mod Settings
-pub mod Saving
-pub mod Worked
-pub mod Numbering
+pub mod TextLines
+pub mod StateLines
+pub mod StateText
+pub mod WorkedState
+pub mod BudgetDigits

@@ -1,7 +1,7 @@
 -- A state as text: 17 lines of 40 bytes in a listing's own form, a JUMP to the point and then a SETC for each register, in order.
 -- Every line is judged by 2 to 5, as a line of a listing is; a text that is anything else is no state.
 use Prim.Native.Nat.{ℕ, zero, suc, _+_, _*_}
-use mathlib.Core.Bool.{Bool, true, false, _&&_, cond}
+use mathlib.Core.Bool.{Bool, true, false, _&&_, not, cond}
 use mathlib.Core.List.{List, [], _∷_, _++_}
 use lib.ListN.{length, getD, set, take, drop, replicate}
 use lib.Dec.{eqb}
@@ -11,10 +11,9 @@ use Rattle.model.specs.declared.text.Word.{Word}
 use Rattle.model.specs.declared.text.Word.the-variants.{Setc as SETC, Jump as JUMP}
 use Rattle.model.specs.declared.text.FoundWord.the-variants.{Known}
 use Rattle.model.specs.declared.machine.State.{State}
-use Rattle.model.specs.declared.answers.Judgement.{Judgement}
-use Rattle.model.specs.declared.answers.Judgement.the-variants.{Accepted, Refused as refused}
 use Rattle.model.specs.Limits.{lineBytes, registers}
 use Rattle.model.specs.Text.{space}
+use Rattle.model.specs.Answers.{isRefused}
 use Rattle.model.specs.Words.{textOf as wordText, begins}
 use Rattle.model.specs.Lines.{wellSpelled, fieldsIn, F1, F4, F6, judged, lineSet}
 use Rattle.model.specs.Listing.{lineAt}
@@ -29,15 +28,10 @@ use Rattle.saved.specs.declared.states.Saved.{Saved}
 abbrev pub stateBytes : ℕ
 stateBytes = 680
 
--- nothing turns it back
-abbrev pub accepts : Judgement → Bool
-accepts Accepted = true
-accepts (refused r) = false
-
 -- a line of this word: well spelled, and accepted with its fields
 unfoldable pub isLineOf : Word → List ℕ → Bool
 unfolding wellSpelled begins judged fieldsIn
-isLineOf w l = wellSpelled l && begins l (wordText w) && accepts (judged 0 (Known w) (fieldsIn l))
+isLineOf w l = wellSpelled l && begins l (wordText w) && not (isRefused (judged 0 (Known w) (fieldsIn l)))
 
 -- the point that a line names: that of a JUMP
 unfoldable pub targetOn : List ℕ → Target

@@ -5,7 +5,7 @@ use lines::fields::judge;
 use lines::line::is_well_spelled;
 use lines::line::read_fields;
 use lines::words;
-use model::answers::Judgement;
+use model::answers::is_refused;
 use model::limits::REGISTERS;
 use model::machine::State;
 use model::text::Field;
@@ -43,16 +43,6 @@ pub struct Saved {
     pub state: State,
 }
 
-// Whether nothing is turned back.
-fn accepts(j: Judgement) -> bool
-    ensures { λ r. ⌜ r ≡ States.accepts j ⌝ }
-{
-    match j {
-        Judgement::Accepted => true,
-        Judgement::Refused(_) => false,
-    }
-}
-
 // Whether a line is one of this word, well spelled and accepted with its fields.
 fn is_line_of(w: Word, l: &[u8]) -> bool
     requires { ⌜ length (now l) ≡ 40 ⌝ }
@@ -64,7 +54,7 @@ fn is_line_of(w: Word, l: &[u8]) -> bool
     if !words::begins_with(l, w) {
         return false;
     }
-    accepts(judge(0, FoundWord::Known(w), read_fields(l)))
+    !is_refused(judge(0, FoundWord::Known(w), read_fields(l)))
 }
 
 // The point that a line names.

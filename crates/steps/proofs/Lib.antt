@@ -1,2 +1,2 @@
-pub mod Copying
-pub mod Moves
+pub mod FilledArrays
+pub mod InstructionSteps

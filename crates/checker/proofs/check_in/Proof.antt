@@ -1,5 +1,5 @@
 use borrow.Author.Needs.{needs}
-use Rattle.checker.proofs.Checking.{check-refused, check-passed}
+use Rattle.checker.proofs.Verdicts.{check-refused, check-passed}
 use Rattle.checker.proofs.check_in.Statement.{statement}
 use Rattle.checker.proofs.check_in.Tie as tie
 

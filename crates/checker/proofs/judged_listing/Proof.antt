@@ -1,5 +1,5 @@
 use borrow.Author.Needs.{needs}
-use Rattle.checker.proofs.Checking.{is-read, judged-refusedListing, judged-read}
+use Rattle.checker.proofs.Verdicts.{is-read, judged-refusedListing, judged-read}
 use Rattle.checker.proofs.judged_listing.Statement.{statement}
 use Rattle.checker.proofs.judged_listing.Tie as tie
 

@@ -12,7 +12,7 @@ use lib.ListN.{length}
 use Rattle.model.specs.Limits as Limits
 use Rattle.model.specs.Lists.{everyBelow}
 use Rattle.model.specs.Facts.{lo, hi, nonEmpty}
-use Rattle.facts.proofs.Held.{low-held, high-held}
+use Rattle.facts.proofs.ArrayContents.{low-held, high-held}
 use Rattle.domain.proofs.is_possible.Statement.{statement}
 use Rattle.domain.proofs.is_possible.Tie as tie
 

@@ -8,7 +8,7 @@ use lib.ListN.{set, replicate}
 use Rattle.model.specs.declared.claims.Range.{Range}
 use Rattle.model.specs.Limits.{registers, variables, MAX, greatestSize}
 use Rattle.model.specs.Facts as Model
-use Rattle.facts.proofs.Written.{filled, set-numbers}
+use Rattle.facts.proofs.WrittenArrays.{filled, set-numbers}
 use Rattle.facts.specs.Known.{rangesOf, Ends}
 use Rattle.domain.proofs.unclaimed.Statement.{statement}
 use Rattle.domain.proofs.unclaimed.Tie as tie

@@ -1,8 +1,8 @@
 -- A claim replaces an end or adds a stripe, and both stay within the bounds of a point. Assumes nothing.
 use borrow.Author.Needs.{needs}
 use native.Mathlib.Omega.{arith}
-use Rattle.facts.proofs.Held.{low-set, high-set, stripes-written}
-use Rattle.facts.proofs.Points.{unclaimed-top, ends-even, standing-sized, point-low, point-high, point-row}
+use Rattle.facts.proofs.ArrayContents.{low-set, high-set, stripes-written}
+use Rattle.facts.proofs.PointArrays.{unclaimed-top, ends-even, standing-sized, point-low, point-high, point-row}
 use Rattle.domain.proofs.with_claim.Statement.{statement}
 use Rattle.domain.proofs.with_claim.Tie as tie
 
@@ -35,8 +35,8 @@ element-write-high c =
 enum-known-c-3 : tie.Need-enum-known-c-3
 enum-known-c-3 c = search needs
 
-write-row-requires : tie.Need-write-row-requires
-write-row-requires c κs =
+write-stripe-requires : tie.Need-write-stripe-requires
+write-stripe-requires c κs =
     let start = c .before .before .before .before in
     let h = rw (c .before .before .c3 .given .1) at (start .pre .1 .0) in
     let room = rw (c .before .before .c3 .given .1) at (start .pre .1 .1) in
@@ -71,7 +71,7 @@ returns-3 c =
     let s = told .0 .0 in
     let h = rw (told .1) at (start .pre .1 .0) in
     let room = rw (told .1) at (start .pre .1 .1) in
-    let wrote = c .write-row .ensures .0 in
+    let wrote = c .write-stripe .ensures .0 in
     let sized = standing-sized (a .stripes .now) (a .n) (start .pre .0 .stripes) in
     (rw (told .1, wrote, stripes-written (a .stripes .now) (a .n) s sized (omega arith)), (rw wrote (point-row (a .low .now) (a .high .now) (a .stripes .now) (a .n) (start .pre .0) s h (omega arith)), rw (told .1) (omega arith)))
 
@@ -86,7 +86,7 @@ with-claim-spec =
     mul-high
     element-write-high
     enum-known-c-3
-    write-row-requires
+    write-stripe-requires
     add-result
     returns
     returns-2

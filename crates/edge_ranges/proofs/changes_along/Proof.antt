@@ -7,7 +7,7 @@ use Rattle.model.specs.declared.claims.Range.{Range}
 use Rattle.model.specs.Transfer.{rangesAlong}
 use Rattle.facts.specs.Known.{rangesOf}
 use Rattle.edge_ranges.specs.Changes.{Makes}
-use Rattle.edge_ranges.proofs.Transfers.{ordered-ranges, matched-ranges}
+use Rattle.edge_ranges.proofs.HighEnds.{ordered-ranges, matched-ranges}
 use Rattle.edge_ranges.proofs.changes_along.Statement.{statement}
 use Rattle.edge_ranges.proofs.changes_along.Tie as tie
 

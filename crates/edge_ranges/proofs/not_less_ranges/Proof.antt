@@ -9,8 +9,8 @@ use Rattle.model.specs.declared.claims.Range.{Range}
 use Rattle.model.specs.Facts.{rangeOf}
 use Rattle.model.specs.Transfer.{atMost}
 use Rattle.facts.specs.Known.{rangesOf}
-use Rattle.facts.proofs.Held.{ranges-long}
-use Rattle.facts.proofs.Points.{ends-even}
+use Rattle.facts.proofs.ArrayContents.{ranges-long}
+use Rattle.facts.proofs.PointArrays.{ends-even}
 use Rattle.edge_ranges.proofs.not_less_ranges.Statement.{statement}
 use Rattle.edge_ranges.proofs.not_less_ranges.Tie as tie
 

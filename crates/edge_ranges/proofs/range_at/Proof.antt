@@ -3,8 +3,8 @@ use borrow.Author.Needs.{needs}
 use mathlib.Core.Path.{sym, subst, _∙_}
 use native.Mathlib.Omega.{arith}
 use Rattle.facts.specs.Known.{Word}
-use Rattle.facts.proofs.Held.{range-held}
-use Rattle.facts.proofs.Points.{ends-even}
+use Rattle.facts.proofs.ArrayContents.{range-held}
+use Rattle.facts.proofs.PointArrays.{ends-even}
 use Rattle.edge_ranges.proofs.range_at.Statement.{statement}
 use Rattle.edge_ranges.proofs.range_at.Tie as tie
 

@@ -2,7 +2,7 @@
 use borrow.Author.Needs.{needs}
 use Rattle.facts.specs.Known.{stripesOf}
 use Rattle.edge_stripes.specs.Plans.{keptOf}
-use Rattle.edge_stripes.proofs.Extending.{added-kept}
+use Rattle.edge_stripes.proofs.WrittenStripes.{added-kept}
 use Rattle.edge_stripes.proofs.carry_out.Statement.{statement}
 use Rattle.edge_stripes.proofs.carry_out.Tie as tie
 

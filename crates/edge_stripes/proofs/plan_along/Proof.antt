@@ -6,7 +6,7 @@ use native.Mathlib.Omega.{arith}
 use Rattle.model.specs.declared.claims.Range.{Range}
 use Rattle.model.specs.Transfer.{stripesAlong}
 use Rattle.facts.specs.Known.{rangesOf}
-use Rattle.edge_ranges.proofs.Transfers.{ordered-stripes, matched-stripes}
+use Rattle.edge_ranges.proofs.HighEnds.{ordered-stripes, matched-stripes}
 use Rattle.edge_stripes.proofs.plan_along.Statement.{statement}
 use Rattle.edge_stripes.proofs.plan_along.Tie as tie
 

@@ -4,12 +4,12 @@ use mathlib.Core.Path.{refl, ap, _∙_}
 use mathlib.Core.List.{List}
 use Prim.Native.Nat.{ℕ, _+_}
 use Rattle.facts.specs.Known.{stripesOf}
-use Rattle.facts.proofs.Held.{stripes-written}
+use Rattle.facts.proofs.ArrayContents.{stripes-written}
 use Rattle.edge_stripes.proofs.put.Statement.{statement}
 use Rattle.edge_stripes.proofs.put.Tie as tie
 
-write-row-requires : tie.Need-write-row-requires
-write-row-requires c κs = search needs
+write-stripe-requires : tie.Need-write-stripe-requires
+write-stripe-requires c κs = search needs
 
 add-result : tie.Need-add-result
 add-result c = search needs
@@ -18,8 +18,8 @@ returns : tie.Need-returns
 returns c =
     let start = c .before .before in
     let a = start .args in
-    let wrote = c .write-row .ensures in
+    let wrote = c .write-stripe .ensures in
     (record { same = ap (λ (l : List ℕ). stripesOf l (a .m + 1)) (wrote .0) ∙ stripes-written (a .stripes .now) (a .m) (a .s) (start .pre .0) (start .pre .1 .0); sized = wrote .1 }, refl)
 
 pub put-spec : {M : Type 1} → statement M
-put-spec = tie.close (tie.spec write-row-requires add-result returns)
+put-spec = tie.close (tie.spec write-stripe-requires add-result returns)

@@ -1,7 +1,7 @@
 -- None, one or two rows. Assumes nothing.
 use borrow.Author.Needs.{needs}
 use native.Mathlib.Omega.{arith}
-use Rattle.edge_stripes.proofs.Extending.{extends-none, extends-both}
+use Rattle.edge_stripes.proofs.WrittenStripes.{extends-none, extends-both}
 use Rattle.edge_stripes.proofs.put_added.Statement.{statement}
 use Rattle.edge_stripes.proofs.put_added.Tie as tie
 

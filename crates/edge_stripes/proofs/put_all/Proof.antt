@@ -5,7 +5,7 @@ use native.Mathlib.Omega.{arith}
 use Rattle.model.specs.Limits.{greatestBound}
 use Rattle.facts.specs.Known.{stripesOf, Small}
 use Rattle.edge_stripes.specs.Plans.{keptOf, Extends}
-use Rattle.edge_stripes.proofs.Extending.{kept-none, kept-more, standing-small}
+use Rattle.edge_stripes.proofs.WrittenStripes.{kept-none, kept-more, standing-small}
 use Rattle.edge_stripes.proofs.put_all.Statement.{statement}
 use Rattle.edge_stripes.proofs.put_all.Tie as tie
 
@@ -20,8 +20,8 @@ loop-holds c =
     let a = c .args in
     (omega arith, omega arith, kept-none (a .k) (a .stripes .now) (a .new-rows .now) (a .m) (c .pre .1 .1 .0))
 
-row-at-requires : tie.Need-row-at-requires Inv-loop μ-loop
-row-at-requires c κs =
+stripe-at-requires : tie.Need-stripe-at-requires Inv-loop μ-loop
+stripe-at-requires c κs =
     let start = c .before .before in
     let at = c .before .loop in
     (omega (arith, start .pre .1 .0 .few), start .pre .1 .0 .bytes (at .i) (omega arith))
@@ -32,7 +32,7 @@ put-kept-requires c κs =
     let a = start .args in
     let at = c .before .before .before .loop in
     let standing = start .pre .1 .0 in
-    (subst (Small greatestBound) (sym (c .before .row-at .ensures)) (standing-small (a .stripes .now) (a .n) (at .i) standing (omega arith)), (start .pre .0, (at .inv .2 .sized, omega (arith, standing .few, start .pre .1 .1 .1))))
+    (subst (Small greatestBound) (sym (c .before .stripe-at .ensures)) (standing-small (a .stripes .now) (a .n) (at .i) standing (omega arith)), (start .pre .0, (at .inv .2 .sized, omega (arith, standing .few, start .pre .1 .1 .1))))
 
 add-i : tie.Need-add-i Inv-loop μ-loop
 add-i c = omega arith
@@ -44,7 +44,7 @@ loop-again : tie.Need-loop-again Inv-loop μ-loop
 loop-again c =
     let a = c .before .before .before .before .before .args in
     let at = c .before .before .before .before .loop in
-    (omega arith, omega (arith, c .put-kept .ensures .1), kept-more (a .k) (a .stripes .now) (at .i) (c .before .before .row-at .result) (c .before .before .row-at .ensures) (at .inv .2) (c .put-kept .ensures .0))
+    (omega arith, omega (arith, c .put-kept .ensures .1), kept-more (a .k) (a .stripes .now) (at .i) (c .before .before .stripe-at .result) (c .before .before .stripe-at .ensures) (at .inv .2) (c .put-kept .ensures .0))
 
 returns : tie.Need-returns Inv-loop μ-loop
 returns c =
@@ -61,7 +61,7 @@ put-all-spec =
     Inv-loop
     μ-loop
     loop-holds
-    row-at-requires
+    stripe-at-requires
     put-kept-requires
     add-i
     loop-less

@@ -2,7 +2,7 @@
 use borrow.Author.Needs.{needs}
 use mathlib.Core.Path.{sym, _∙_}
 use native.Mathlib.Omega.{arith}
-use Rattle.edge_stripes.proofs.Extending.{extends-none, named-one, unnamed-one, shifted-one, shifted-away}
+use Rattle.edge_stripes.proofs.WrittenStripes.{extends-none, named-one, unnamed-one, shifted-one, shifted-away}
 use Rattle.edge_stripes.proofs.put_kept.Statement.{statement}
 use Rattle.edge_stripes.proofs.put_kept.Tie as tie
 

@@ -8,7 +8,7 @@ use borrow.Author.Needs.{needs}
 use Rattle.model.specs.Limits as Limits
 use Rattle.model.specs.Lists.{every}
 use Rattle.model.specs.Run.{sizeFits}
-use Rattle.runner.proofs.States.{sizes-none, sizes-more}
+use Rattle.runner.proofs.StateJudged.{sizes-none, sizes-more}
 use Rattle.runner.proofs.all_fit.Statement.{statement}
 use Rattle.runner.proofs.all_fit.Tie as tie
 

@@ -1,5 +1,5 @@
 -- The facts of the point are tested. Assumes nothing.
-use Rattle.reader.proofs.Gathering.{none-standing}
+use Rattle.reader.proofs.GatheredClaims.{none-standing}
 use borrow.Author.Needs.{needs}
 use Rattle.runner.proofs.claims_met.Statement.{statement}
 use Rattle.runner.proofs.claims_met.Tie as tie

@@ -4,9 +4,9 @@ use mathlib.Core.Path.{_≡_, refl, ap, _∙_}
 use native.Mathlib.Omega.{arith}
 use lib.ListN.{length}
 use Rattle.decoded.specs.Decoded.{instructionFrom}
-use Rattle.decoded.proofs.Written.{row-long}
+use Rattle.decoded.proofs.WrittenRows.{row-long}
 use Rattle.runner.specs.Runs.{Gathered}
-use Rattle.runner.proofs.Gathered.{none-gathered, one-gathered}
+use Rattle.runner.proofs.GatheredRows.{none-gathered, one-gathered}
 use Rattle.runner.proofs.gather.Statement.{statement}
 use Rattle.runner.proofs.gather.Tie as tie
 
@@ -19,8 +19,8 @@ abbrev μ-loop : tie.MeasureT-loop
 loop-holds : tie.Need-loop-holds Inv-loop μ-loop
 loop-holds c = (omega arith, refl, none-gathered _ _ _)
 
-row-of-requires : tie.Need-row-of-requires Inv-loop μ-loop
-row-of-requires c κs = c .before .before .before .before .before .pre .0 .each _ (c .loop-test .taken)
+instruction-row-requires : tie.Need-instruction-row-requires Inv-loop μ-loop
+instruction-row-requires c κs = c .before .before .before .before .before .pre .0 .each _ (c .loop-test .taken)
 
 write-row-requires : tie.Need-write-row-requires Inv-loop μ-loop
 write-row-requires c κs = let room = c .before .before .before .before .before .before .before .pre .1 in let long = c .before .before .before .loop .inv .1 in let t = c .before .before .loop-test .taken in omega arith
@@ -38,7 +38,7 @@ loop-again c =
     let t = c .before .before .before .before .before .loop-test .taken in
     let all = c .before .before .before .before .before .before .before .before .before .before .pre .1 in
     let room : l .p * 8 + 8 ≤ length (l .code) = omega arith in
-    rw (c .before .before .write-row .ensures) (omega arith, row-long (l .code) (l .p) _ ∙ long, one-gathered _ _ _ _ _ room (ap instructionFrom (c .before .before .before .before .row-of .ensures)) (l .inv .2))
+    rw (c .before .before .write-row .ensures) (omega arith, row-long (l .code) (l .p) _ ∙ long, one-gathered _ _ _ _ _ room (ap instructionFrom (c .before .before .before .before .instruction-row .ensures)) (l .inv .2))
 
 same-length : tie.Need-same-length Inv-loop μ-loop
 same-length c = c .before .loop .inv .1
@@ -57,7 +57,7 @@ gather-spec =
     Inv-loop
     μ-loop
     loop-holds
-    row-of-requires
+    instruction-row-requires
     write-row-requires
     add-p
     loop-less

@@ -8,11 +8,11 @@ use Rattle.model.specs.Limits as Limits
 use Rattle.model.specs.Listing.{listingOf, pointsOf}
 use Rattle.model.specs.Machine.{lent, sizesOf, valuesFrom}
 use Rattle.steps.specs.Stepped.{config}
-use Rattle.steps.proofs.Moves.{stepped-as}
+use Rattle.steps.proofs.InstructionSteps.{stepped-as}
 use Rattle.runner.specs.Runs.{state}
-use Rattle.runner.proofs.Gathered.{row-stands}
-use Rattle.runner.proofs.States.{met}
-use Rattle.runner.proofs.Running.{passes, Going, steppable, stopped-here, paused-here, goes-on, start-is, at-start, lent-bytes, ran-to}
+use Rattle.runner.proofs.GatheredRows.{row-stands}
+use Rattle.runner.proofs.StateJudged.{met}
+use Rattle.runner.proofs.RunLoop.{passes, Going, steppable, stopped-here, paused-here, goes-on, start-is, at-start, lent-bytes, ran-to}
 use Rattle.runner.proofs.run_from.Statement.{statement}
 use Rattle.runner.proofs.run_from.Tie as tie
 

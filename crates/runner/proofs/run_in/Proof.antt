@@ -2,8 +2,8 @@ use mathlib.Core.Path.{sym, _∙_}
 use borrow.Author.Needs.{needs}
 use Rattle.model.specs.Machine.{lent}
 use Rattle.runner.specs.Runs.{state}
-use Rattle.runner.proofs.Running.{passed, listing-refused}
-use Rattle.runner.proofs.Counted.{code-room}
+use Rattle.runner.proofs.RunLoop.{passed, listing-refused}
+use Rattle.runner.proofs.PointCount.{code-room}
 use Rattle.runner.proofs.run_in.Statement.{statement}
 use Rattle.runner.proofs.run_in.Tie as tie
 

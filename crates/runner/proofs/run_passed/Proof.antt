@@ -1,7 +1,7 @@
 use mathlib.Core.Path.{sym, _∙_}
 use Rattle.model.specs.Machine.{lent}
 use Rattle.runner.specs.Runs.{state}
-use Rattle.runner.proofs.Running.{state-held, state-refused}
+use Rattle.runner.proofs.RunLoop.{state-held, state-refused}
 use borrow.Author.Needs.{needs}
 use Rattle.runner.proofs.run_passed.Statement.{statement}
 use Rattle.runner.proofs.run_passed.Tie as tie

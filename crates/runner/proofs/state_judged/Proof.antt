@@ -4,7 +4,7 @@ use mathlib.Core.Path.{ap, sym, _∙_}
 use borrow.Author.Tests.{not-true, not-false}
 use Rattle.model.specs.Machine.{valuesFrom}
 use Rattle.runner.specs.Runs.{state}
-use Rattle.runner.proofs.States.{tables-long, point-past, claims-tested}
+use Rattle.runner.proofs.StateJudged.{tables-long, point-past, claims-tested}
 use borrow.Author.Needs.{needs}
 use Rattle.runner.proofs.state_judged.Statement.{statement}
 use Rattle.runner.proofs.state_judged.Tie as tie

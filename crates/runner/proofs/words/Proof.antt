@@ -1,6 +1,6 @@
 use native.Mathlib.Omega.{arith}
 use borrow.Author.Needs.{needs}
-use Rattle.runner.proofs.States.{size-small, two-sizes}
+use Rattle.runner.proofs.StateJudged.{size-small, two-sizes}
 use Rattle.runner.proofs.words.Statement.{statement}
 use Rattle.runner.proofs.words.Tie as tie
 

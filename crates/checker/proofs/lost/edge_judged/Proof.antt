@@ -2,8 +2,8 @@
 use mathlib.Core.Path.{refl, sym, _∙_}
 use native.Mathlib.Omega.{arith}
 use borrow.Author.Tests.{not-true, not-false}
-use Rattle.facts.proofs.Points.{edge-sized, known-laid}
-use Rattle.checker.proofs.Losing.{edge-none, edge-kept, edge-refused, edge-impossible}
+use Rattle.facts.proofs.PointArrays.{edge-sized, known-laid}
+use Rattle.checker.proofs.LostClaims.{edge-none, edge-kept, edge-refused, edge-impossible}
 use borrow.Author.Needs.{needs}
 use Rattle.checker.proofs.lost.edge_judged.Statement.{statement}
 use Rattle.checker.proofs.lost.edge_judged.Tie as tie

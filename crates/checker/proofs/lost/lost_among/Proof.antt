@@ -8,7 +8,7 @@ use Rattle.model.specs.Facts.{Facts}
 use Rattle.model.specs.Follows.{firstLost}
 use Rattle.facts.specs.Laid.{Laid}
 use Rattle.decoded.specs.Decoded.{claimsFrom}
-use Rattle.checker.proofs.Losing.{lost-none, lost-kept, lost-first}
+use Rattle.checker.proofs.LostClaims.{lost-none, lost-kept, lost-first}
 use Rattle.checker.proofs.lost.lost_among.Statement.{statement}
 use Rattle.checker.proofs.lost.lost_among.Tie as tie
 

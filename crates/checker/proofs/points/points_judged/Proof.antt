@@ -7,11 +7,11 @@ use Rattle.model.specs.declared.answers.Judgement.the-variants.{Accepted}
 use Rattle.model.specs.Check.{pointsJudged}
 use Rattle.facts.specs.Sizes.{greatestPart, edgeStripes}
 use Rattle.facts.specs.StripeRows.{SizedRows}
-use Rattle.facts.proofs.Written.{zeros}
+use Rattle.facts.proofs.WrittenArrays.{zeros}
 use Rattle.facts.specs.Known.{Standing}
 use Rattle.reader.specs.Points.{pointsIn}
-use Rattle.reader.proofs.Gathering.{none-standing}
-use Rattle.checker.proofs.Owing.{points-none, accepted-next, refused-all}
+use Rattle.reader.proofs.GatheredClaims.{none-standing}
+use Rattle.checker.proofs.Owed.{points-none, accepted-next, refused-all}
 use Rattle.checker.proofs.points.points_judged.Statement.{statement}
 use Rattle.checker.proofs.points.points_judged.Tie as tie
 

@@ -3,8 +3,8 @@ use mathlib.Core.Path.{_∙_}
 use native.Mathlib.Omega.{arith}
 use borrow.Author.Needs.{needs}
 use Rattle.facts.specs.Known.{known}
-use Rattle.facts.proofs.Points.{ends-even, point-sized, known-laid}
-use Rattle.checker.proofs.Laying.{access-goal}
+use Rattle.facts.proofs.PointArrays.{ends-even, point-sized, known-laid}
+use Rattle.checker.proofs.AccessNumbers.{access-goal}
 use Rattle.checker.proofs.safety.safe_by_goal.Statement.{statement}
 use Rattle.checker.proofs.safety.safe_by_goal.Tie as tie
 

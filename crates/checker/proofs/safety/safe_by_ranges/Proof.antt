@@ -3,9 +3,9 @@ use native.Mathlib.Nat.{mul-le-mul}
 use native.Mathlib.Omega.{arith}
 use borrow.Author.Needs.{needs}
 use Rattle.facts.specs.Known.{rangesOf}
-use Rattle.facts.proofs.Held.{low-held, high-held}
-use Rattle.facts.proofs.Points.{ends-even}
-use Rattle.checker.proofs.Laying.{access-ranges}
+use Rattle.facts.proofs.ArrayContents.{low-held, high-held}
+use Rattle.facts.proofs.PointArrays.{ends-even}
+use Rattle.checker.proofs.AccessNumbers.{access-ranges}
 use Rattle.checker.proofs.safety.safe_by_ranges.Statement.{statement}
 use Rattle.checker.proofs.safety.safe_by_ranges.Tie as tie
 

@@ -1,7 +1,7 @@
 -- The numbers are the same where the bytes are. Assumes nothing.
 use borrow.Author.Needs.{needs}
 use native.Mathlib.Omega.{arith}
-use Rattle.columns.proofs.Joining.{joined-same}
+use Rattle.columns.proofs.FourBytes.{joined-same}
 use Rattle.columns.proofs.fours.same.Statement.{statement}
 use Rattle.columns.proofs.fours.same.Tie as tie
 

@@ -4,7 +4,7 @@ use mathlib.Core.Path.{_≡_, refl, sym, _∙_}
 use lib.ListN.{length, length-set}
 use borrow.Author.Needs.{needs}
 use Rattle.model.specs.Text.{columnsSet}
-use Rattle.columns.proofs.Setting.{columns-step}
+use Rattle.columns.proofs.WrittenColumns.{columns-step}
 use Rattle.columns.proofs.write.set_columns.Statement.{statement}
 use Rattle.columns.proofs.write.set_columns.Tie as tie
 

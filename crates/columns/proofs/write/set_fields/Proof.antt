@@ -5,7 +5,7 @@ use mathlib.Core.Path.{_≡_, refl, ap, _∙_}
 use lib.ListN.{length}
 use borrow.Author.Needs.{needs}
 use Rattle.model.specs.Lines.{fieldsSet}
-use Rattle.columns.proofs.Setting.{columns-fit}
+use Rattle.columns.proofs.WrittenColumns.{columns-fit}
 use Rattle.columns.proofs.write.set_fields.Statement.{statement}
 use Rattle.columns.proofs.write.set_fields.Tie as tie
 

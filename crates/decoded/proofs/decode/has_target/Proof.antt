@@ -3,7 +3,7 @@ use mathlib.Core.Path.{sym, ap}
 use native.Mathlib.Omega.{arith}
 use Rattle.model.specs.Instructions.{hasTarget}
 use Rattle.decoded.specs.Kinds.{ADDW, SUBW, MULW, DIVF, LOAD, STOR}
-use Rattle.decoded.proofs.ByKind.{stop-row, setc-row, copy-row, addw-row, subw-row, mulw-row, divf-row, load-row, stor-row, arithmetic-kind, access-kind, has-target}
+use Rattle.decoded.proofs.RowInstructions.{stop-row, setc-row, copy-row, addw-row, subw-row, mulw-row, divf-row, load-row, stor-row, arithmetic-kind, access-kind, has-target}
 use Rattle.decoded.proofs.decode.has_target.Statement.{statement}
 use Rattle.decoded.proofs.decode.has_target.Tie as tie
 

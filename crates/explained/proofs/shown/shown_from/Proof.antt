@@ -9,7 +9,7 @@ use lib.Seq.{paste-zero}
 use borrow.Author.Needs.{needs}
 use Rattle.model.specs.Text.{space}
 use Rattle.explained.specs.Explanation.{shownByte}
-use Rattle.explained.proofs.Showing.{shownTo, shown-more, shown-whole}
+use Rattle.explained.proofs.ShownLine.{shownTo, shown-more, shown-whole}
 use Rattle.explained.proofs.shown.shown_from.Statement.{statement}
 use Rattle.explained.proofs.shown.shown_from.Tie as tie
 

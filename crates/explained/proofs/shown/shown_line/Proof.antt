@@ -2,7 +2,7 @@
 use mathlib.Core.Path.{sym, _∙_}
 use native.Mathlib.Omega.{arith}
 use Rattle.explained.specs.Explanation.{shownLine}
-use Rattle.explained.proofs.Showing.{no-line, whole-line}
+use Rattle.explained.proofs.ShownLine.{no-line, whole-line}
 use Rattle.explained.proofs.shown.shown_line.Statement.{statement}
 use Rattle.explained.proofs.shown.shown_line.Tie as tie
 

@@ -5,7 +5,7 @@ use native.Mathlib.Omega.{arith}
 use lib.ListN.{length}
 use lib.Seq.{length-take-le}
 use Rattle.explained.specs.Explanation.{trimmedTo, trimmedLength}
-use Rattle.explained.proofs.Trimming.{space-cut, byte-kept}
+use Rattle.explained.proofs.TrimmedText.{space-cut, byte-kept}
 use Rattle.explained.proofs.shown.trimmed.Statement.{statement}
 use Rattle.explained.proofs.shown.trimmed.Tie as tie
 

@@ -14,8 +14,8 @@ use Rattle.goals.specs.Links.{linkAt}
 use Rattle.goals.specs.Goal as listed
 use Rattle.goals.specs.Goal.{atOnce, byLink, bySomeLink}
 use Rattle.facts.proofs.Search.{below-hit, below-none, below-miss}
-use Rattle.goals.proofs.Turned.{once-turned, follows-turned}
-use Rattle.goals.proofs.Cases as cases
+use Rattle.goals.proofs.ExchangedVariables.{once-turned, follows-turned}
+use Rattle.goals.proofs.FollowsCases as cases
 use Rattle.goals.proofs.follows.follows.Reads as follows
 use Rattle.goals.proofs.follows.follows.Kinds as follows-kinds
 use Rattle.goals.proofs.follows.+follows+linked+through.Lts-follows as follows-lts
@@ -26,7 +26,7 @@ use Rattle.goals.proofs.follows.through.Reads as through
 use Rattle.goals.proofs.follows.through.Kinds as through-kinds
 use Rattle.goals.proofs.follows.+follows+linked+through.Lts-through as through-lts
 use Rattle.goals.proofs.follows.at_once.Reads as at-once-reads
-use Rattle.goals.proofs.follows.scaled.Reads as scaled-reads
+use Rattle.facts.proofs.sizes.scaled.Reads as scaled-reads
 use Rattle.goals.proofs.links.touches.Reads as touches-reads
 use Rattle.goals.proofs.follows.+follows+linked+through.{statement}
 use Rattle.goals.proofs.follows.+follows+linked+through.Tie.{close}
@@ -178,7 +178,7 @@ through-element-copy-out-scaled t c = omega arith
 through-scaled-requires : (t : ℕ) → through-lts.Need-scaled-requires (through-claims t) (through-at t) through.Post
 through-scaled-requires t c κs =
     let start = c .before .before .before in
-    start .pre .1 .1 .0 .linked .most _ (omega arith)
+    (omega arith, start .pre .1 .1 .0 .linked .most _ (omega arith))
 
 through-add-more : (t : ℕ) → through-lts.Need-add-more (through-claims t) (through-at t) through.Post
 through-add-more t c = omega arith
@@ -195,7 +195,7 @@ through-element-copy-out-scaled-2 t c = omega arith
 through-scaled-requires-2 : (t : ℕ) → through-lts.Need-scaled-requires-2 (through-claims t) (through-at t) through.Post
 through-scaled-requires-2 t c κs =
     let start = c .before .before .before .before .before in
-    start .pre .1 .1 .0 .linked .most _ (omega arith)
+    (omega arith, start .pre .1 .1 .0 .linked .most _ (omega arith))
 
 through-add-less : (t : ℕ) → through-lts.Need-add-less (through-claims t) (through-at t) through.Post
 through-add-less t c = omega arith

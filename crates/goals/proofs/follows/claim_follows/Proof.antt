@@ -1,6 +1,6 @@
 -- Each kind of claim by its own test. Assumes nothing.
 use mathlib.Core.Path.{_∙_}
-use Rattle.goals.proofs.Agrees.{leas-agrees, most-agrees, stripe-agrees, small-goal}
+use Rattle.goals.proofs.GoalOfFacts.{leas-agrees, most-agrees, stripe-agrees, small-goal}
 use borrow.Author.Needs.{needs}
 use Rattle.goals.proofs.follows.claim_follows.Statement.{statement}
 use Rattle.goals.proofs.follows.claim_follows.Tie as tie

@@ -4,8 +4,8 @@ use mathlib.Core.Path.{sym, ap, _∙_}
 use Rattle.model.specs.Limits.{greatestLinks}
 use Rattle.model.specs.Facts.{lo}
 use Rattle.facts.specs.Sizes.{greatestPart}
-use Rattle.facts.proofs.Written.{zeros}
-use Rattle.goals.proofs.Agrees.{once-enough, follows-agrees, together}
+use Rattle.facts.proofs.WrittenArrays.{zeros}
+use Rattle.goals.proofs.GoalOfFacts.{once-enough, follows-agrees, together}
 use borrow.Author.Needs.{needs}
 use Rattle.goals.proofs.follows.goal_follows.Statement.{statement}
 use Rattle.goals.proofs.follows.goal_follows.Tie as tie

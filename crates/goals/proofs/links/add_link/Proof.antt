@@ -4,8 +4,8 @@ use mathlib.Core.List.{List}
 use Prim.Native.Nat.{ℕ, _+_, _≤_}
 use Rattle.model.specs.Transfer.{apart}
 use Rattle.goals.specs.Links.{SizedLinks, Added}
-use Rattle.goals.proofs.LinkWritten.{link-sized}
-use Rattle.goals.proofs.Added.{better-stands, worse-replaced, at-the-end}
+use Rattle.goals.proofs.WrittenLink.{link-sized}
+use Rattle.goals.proofs.AddedLink.{better-stands, worse-replaced, at-the-end}
 use native.Mathlib.Omega.{arith}
 use borrow.Author.Needs.{needs}
 use Rattle.goals.proofs.links.add_link.Statement.{statement}

@@ -3,7 +3,7 @@ use mathlib.Core.Path.{sym, _∙_}
 use Prim.Native.Nat.{_+_, _*_}
 use native.Mathlib.Omega.{arith}
 use Rattle.facts.specs.StripeRows.{stripeAt}
-use Rattle.goals.proofs.Grown.{grown-added, grown-passed}
+use Rattle.goals.proofs.LinkRows.{grown-added, grown-passed}
 use borrow.Author.Needs.{needs}
 use Rattle.goals.proofs.links.add_row.Statement.{statement}
 use Rattle.goals.proofs.links.add_row.Tie as tie

@@ -4,7 +4,7 @@ use Prim.Native.Nat.{ℕ, _≤_, _-_}
 use native.Mathlib.Omega.{arith}
 use borrow.Author.Needs.{needs}
 use Rattle.goals.specs.Links.{SizedLinks, Gathered}
-use Rattle.goals.proofs.Grown.{gathered-none, gathered-more}
+use Rattle.goals.proofs.LinkRows.{gathered-none, gathered-more}
 use Rattle.goals.proofs.links.gather.Statement.{statement}
 use Rattle.goals.proofs.links.gather.Tie as tie
 

@@ -1,7 +1,7 @@
 -- The greatest fault decides. Assumes nothing.
 use mathlib.Core.Path.{sym, _∙_}
 use borrow.Author.Needs.{needs}
-use Rattle.lines.proofs.Judging.{faultless, outside-limits, out-of-shape}
+use Rattle.lines.proofs.GreatestFault.{faultless, outside-limits, out-of-shape}
 use Rattle.lines.proofs.fields.judge_known.Statement.{statement}
 use Rattle.lines.proofs.fields.judge_known.Tie as tie
 

@@ -1,7 +1,7 @@
 use Prim.Native.Nat.{_<_}
 use native.Mathlib.Omega.{arith}
 use borrow.Author.Needs.{needs}
-use Rattle.lines.proofs.Printing.{printable-from-space}
+use Rattle.lines.proofs.PrintableBytes.{printable-from-space}
 use Rattle.lines.proofs.line.is_printable.Statement.{statement}
 use Rattle.lines.proofs.line.is_printable.Tie as tie
 

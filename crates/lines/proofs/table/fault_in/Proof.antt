@@ -2,7 +2,7 @@
 use mathlib.Core.Path.{_∙_}
 use Rattle.model.specs.declared.text.Word.the-variants.{Stop, Setc, Copy, Addw, Subw, Mulw, Divf, Load, Stor, Jump, Bltu, Bequ, Leas, Most, Strp}
 use Rattle.model.specs.Words.{fieldsOf}
-use Rattle.lines.proofs.Judging.{row-fault}
+use Rattle.lines.proofs.GreatestFault.{row-fault}
 use borrow.Author.Needs.{needs}
 use Rattle.lines.proofs.table.fault_in.Statement.{statement}
 use Rattle.lines.proofs.table.fault_in.Tie as tie

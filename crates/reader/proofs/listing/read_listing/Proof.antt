@@ -5,7 +5,7 @@ use lib.ListN.{length}
 use borrow.Author.Tests.{not-true, not-false}
 use Rattle.model.specs.Limits.{lineBytes}
 use Rattle.model.specs.Listing.{readTo}
-use Rattle.reader.proofs.Listings.{all-read, stands-turned, stands-going, listing-good, listing-bad, good-lines}
+use Rattle.reader.proofs.ReadListing.{all-read, stands-turned, stands-going, listing-good, listing-bad, good-lines}
 use borrow.Author.Needs.{needs}
 use Rattle.reader.proofs.listing.read_listing.Statement.{statement}
 use Rattle.reader.proofs.listing.read_listing.Tie as tie

@@ -10,7 +10,7 @@ use Rattle.model.specs.Listing.{stripesAmong}
 use Rattle.decoded.specs.Decoded.{claimsFrom}
 use Rattle.decoded.proofs.Claims.{claims-none}
 use Rattle.facts.specs.Known.{known, AtPoint}
-use Rattle.reader.proofs.Gathering.{facts-start, facts-next, stripes-next, gather-room}
+use Rattle.reader.proofs.GatheredClaims.{facts-start, facts-next, stripes-next, gather-room}
 use Rattle.reader.proofs.point_facts.facts_of.Statement.{statement}
 use Rattle.reader.proofs.point_facts.facts_of.Tie as tie
 

@@ -1,5 +1,5 @@
 use mathlib.Core.Path.{sym, _∙_}
-use Rattle.reader.proofs.Reading.{spelled, misspelled}
+use Rattle.reader.proofs.ReadLine.{spelled, misspelled}
 use borrow.Author.Needs.{needs}
 use Rattle.reader.proofs.read.read_bytes.Statement.{statement}
 use Rattle.reader.proofs.read.read_bytes.Tie as tie

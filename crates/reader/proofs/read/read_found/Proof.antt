@@ -1,4 +1,4 @@
-use Rattle.reader.proofs.Reading.{unknown-line}
+use Rattle.reader.proofs.ReadLine.{unknown-line}
 use borrow.Author.Needs.{needs}
 use Rattle.reader.proofs.read.read_found.Statement.{statement}
 use Rattle.reader.proofs.read.read_found.Tie as tie

@@ -1,5 +1,5 @@
 use mathlib.Core.Path.{sym, _∙_}
-use Rattle.reader.proofs.Reading.{known-accepted, known-refused}
+use Rattle.reader.proofs.ReadLine.{known-accepted, known-refused}
 use borrow.Author.Needs.{needs}
 use Rattle.reader.proofs.read.read_known.Statement.{statement}
 use Rattle.reader.proofs.read.read_known.Tie as tie

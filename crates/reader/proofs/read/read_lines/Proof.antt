@@ -6,10 +6,10 @@ use native.Mathlib.Numerals.{add-one}
 use borrow.Author.Needs.{needs}
 use lib.ListN.{length, length-take, length-drop}
 use Rattle.model.specs.Listing.{readTo}
-use Rattle.decoded.proofs.Written.{row-long}
+use Rattle.decoded.proofs.WrittenRows.{row-long}
 use Rattle.reader.specs.Scan.{progressOf}
 use Rattle.reader.specs.Read.{ScannedSo}
-use Rattle.reader.proofs.Keeping.{scanned-none, within, progress-next, lines-next, turned-back, line-read}
+use Rattle.reader.proofs.RowsAndPlaces.{scanned-none, within, progress-next, lines-next, turned-back, line-read}
 use Rattle.reader.proofs.read.read_lines.Statement.{statement}
 use Rattle.reader.proofs.read.read_lines.Tie as tie
 

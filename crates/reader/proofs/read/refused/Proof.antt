@@ -1,5 +1,5 @@
 use mathlib.Core.Path.{refl}
-use Rattle.reader.proofs.Reading.{refused-read}
+use Rattle.reader.proofs.ReadLine.{refused-read}
 use borrow.Author.Needs.{needs}
 use Rattle.reader.proofs.read.refused.Statement.{statement}
 use Rattle.reader.proofs.read.refused.Tie as tie

@@ -1,5 +1,5 @@
 use mathlib.Core.Path.{sym, _∙_}
-use Rattle.reader.proofs.Wholes.{names-none, names-own}
+use Rattle.reader.proofs.WholeListing.{names-none, names-own}
 use borrow.Author.Needs.{needs}
 use Rattle.reader.proofs.whole.own_target_exists.Statement.{statement}
 use Rattle.reader.proofs.whole.own_target_exists.Tie as tie

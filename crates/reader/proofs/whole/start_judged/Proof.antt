@@ -6,8 +6,8 @@ use native.Mathlib.Omega.{arith}
 use Rattle.model.specs.declared.answers.Refusal.the-variants.{EmptyStart}
 use Rattle.model.specs.declared.answers.Judgement.the-variants.{Refused as refused}
 use Rattle.model.specs.Facts.{Facts, nonEmpty}
-use Rattle.reader.proofs.Gathering.{none-standing}
-use Rattle.reader.proofs.Wholes.{starts-as}
+use Rattle.reader.proofs.GatheredClaims.{none-standing}
+use Rattle.reader.proofs.WholeListing.{starts-as}
 use borrow.Author.Needs.{needs}
 use Rattle.reader.proofs.whole.start_judged.Statement.{statement}
 use Rattle.reader.proofs.whole.start_judged.Tie as tie

@@ -6,8 +6,8 @@ use native.Mathlib.Numerals.{add-one}
 use borrow.Author.Needs.{needs}
 use Rattle.model.specs.Listing.{allTargetsExist}
 use Rattle.reader.specs.Points.{pointsIn}
-use Rattle.reader.proofs.Points.{points-none}
-use Rattle.reader.proofs.Wholes.{targets-next}
+use Rattle.reader.proofs.PlacedPoints.{points-none}
+use Rattle.reader.proofs.WholeListing.{targets-next}
 use Rattle.reader.proofs.whole.targets_exist.Statement.{statement}
 use Rattle.reader.proofs.whole.targets_exist.Tie as tie
 
@@ -20,8 +20,8 @@ abbrev μ-loop : tie.MeasureT-loop
 loop-holds : tie.Need-loop-holds Inv-loop μ-loop
 loop-holds c = (omega arith, rw points-none)
 
-row-of-requires : tie.Need-row-of-requires Inv-loop μ-loop
-row-of-requires c κs = c .before .before .before .before .pre .each _ (c .loop-test .taken)
+instruction-row-requires : tie.Need-instruction-row-requires Inv-loop μ-loop
+instruction-row-requires c κs = c .before .before .before .before .pre .each _ (c .loop-test .taken)
 
 line-of-requires : tie.Need-line-of-requires Inv-loop μ-loop
 line-of-requires c κs = let q = c .before .before .before .before .before .pre .each _ (c .before .loop-test .taken) in (q .places, q .few)
@@ -40,7 +40,7 @@ loop-less c = omega arith
 
 loop-again : tie.Need-loop-again Inv-loop μ-loop
 loop-again c =
-    (omega arith, rw (add-one, targets-next, c .and-then .ensures, c .before .own-target-exists .ensures, c .before .before .before .row-of .ensures, c .before .before .line-of .ensures, c .before .before .before .before .before .loop .inv .1))
+    (omega arith, rw (add-one, targets-next, c .and-then .ensures, c .before .own-target-exists .ensures, c .before .before .before .instruction-row .ensures, c .before .before .line-of .ensures, c .before .before .before .before .before .loop .inv .1))
 
 returns : tie.Need-returns Inv-loop μ-loop
 returns c =
@@ -54,7 +54,7 @@ targets-exist-spec =
     Inv-loop
     μ-loop
     loop-holds
-    row-of-requires
+    instruction-row-requires
     line-of-requires
     own-target-exists-requires
     and-then-requires

@@ -4,7 +4,7 @@ use mathlib.Core.Path.{refl, ap, _∙_}
 use native.Mathlib.Omega.{arith}
 use Rattle.model.specs.declared.answers.Refusal.the-variants.{TooManyPoints}
 use Rattle.model.specs.declared.answers.Judgement.the-variants.{Refused as refused}
-use Rattle.reader.proofs.Wholes.{whole-open, whole-many, whole-few}
+use Rattle.reader.proofs.WholeListing.{whole-open, whole-many, whole-few}
 use borrow.Author.Needs.{needs}
 use Rattle.reader.proofs.whole.whole_judged.Statement.{statement}
 use Rattle.reader.proofs.whole.whole_judged.Tie as tie

@@ -3,7 +3,7 @@ use mathlib.Core.Path.{refl}
 use native.Mathlib.Omega.{arith}
 use borrow.Author.Needs.{needs}
 use borrow.Author.Tests.{lt-leb}
-use Rattle.recovery.proofs.Naming.{named}
+use Rattle.recovery.proofs.NewNames.{named}
 use Rattle.recovery.proofs.names.beside.Statement.{statement}
 use Rattle.recovery.proofs.names.beside.Tie as tie
 

@@ -4,7 +4,7 @@ use native.Mathlib.Omega.{arith}
 use Rattle.model.specs.Facts.{stripeHolds}
 use Rattle.model.specs.Lists.{every}
 use Rattle.facts.specs.Known.{stripesOf}
-use Rattle.runner.proofs.Meeting.{every-none, every-more}
+use Rattle.runner.proofs.ClaimsMet.{every-none, every-more}
 use Rattle.runner.proofs.meets.all_hold.Statement.{statement}
 use Rattle.runner.proofs.meets.all_hold.Tie as tie
 

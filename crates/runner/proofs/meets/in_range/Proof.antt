@@ -1,4 +1,4 @@
-use Rattle.runner.proofs.Meeting.{own-range}
+use Rattle.runner.proofs.ClaimsMet.{own-range}
 use borrow.Author.Needs.{needs}
 use Rattle.runner.proofs.meets.in_range.Statement.{statement}
 use Rattle.runner.proofs.meets.in_range.Tie as tie

@@ -1,6 +1,6 @@
 use mathlib.Core.Path.{sym, _∙_}
 use Rattle.facts.specs.Known.{known}
-use Rattle.runner.proofs.Meeting.{ranges-met, ranges-left}
+use Rattle.runner.proofs.ClaimsMet.{ranges-met, ranges-left}
 use Rattle.runner.proofs.meets.meets.Statement.{statement}
 use Rattle.runner.proofs.meets.meets.Tie as tie
 

@@ -5,7 +5,7 @@ use lib.ListN.{length}
 use borrow.Author.Needs.{needs}
 use Rattle.model.specs.Limits as Limits
 use Rattle.saved.specs.Numbers.{digitsTo}
-use Rattle.saved.proofs.Numbering.{digits-next}
+use Rattle.saved.proofs.BudgetDigits.{digits-next}
 use Rattle.saved.proofs.numbers.digits.Statement.{statement}
 use Rattle.saved.proofs.numbers.digits.Tie as tie
 

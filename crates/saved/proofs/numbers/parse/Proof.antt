@@ -1,4 +1,4 @@
-use Rattle.saved.proofs.Numbering.{number-none, number-some}
+use Rattle.saved.proofs.BudgetDigits.{number-none, number-some}
 use borrow.Author.Tests.{le-ltb, lt-ltb}
 use borrow.Author.Needs.{needs}
 use Rattle.saved.proofs.numbers.parse.Statement.{statement}

@@ -1,8 +1,8 @@
 -- Test by test. Assumes nothing.
 use mathlib.Core.Path.{ap, sym, _∙_}
 use borrow.Author.Tests.{not-true, not-false}
-use Rattle.saved.specs.States.{accepts}
-use Rattle.saved.proofs.Settings.{not-spelled, not-begun, begun}
+use Rattle.model.specs.Answers.{isRefused}
+use Rattle.saved.proofs.StateLines.{not-spelled, not-begun, begun}
 use borrow.Author.Needs.{needs}
 use Rattle.saved.proofs.states.is_line_of.Statement.{statement}
 use Rattle.saved.proofs.states.is_line_of.Tie as tie
@@ -25,12 +25,12 @@ read-fields-requires c κs = search needs
 judge-requires : tie.Need-judge-requires
 judge-requires c κs = search needs
 
-accepts-requires : tie.Need-accepts-requires
-accepts-requires c κs = search needs
+is-refused-requires : tie.Need-is-refused-requires
+is-refused-requires c κs = search needs
 
 returns-3 : tie.Need-returns-3
 returns-3 c =
-    rw (c .accepts .ensures, c .before .judge .ensures, c .before .before .read-fields .ensures)
+    rw (c .is-refused .ensures, c .before .judge .ensures, c .before .before .read-fields .ensures)
     (begun _ _ (sym (c .before .before .before .before .before .before .is-well-spelled .ensures) ∙ not-false _ (c .before .before .before .before .before .if1 .left)) (sym (c .before .before .before .before .begins-with .ensures) ∙ not-false _ (c .before .before .before .if2 .left)))
 
 pub is-line-of-spec : {M : Type 1} → statement M
@@ -43,5 +43,5 @@ is-line-of-spec =
     returns-2
     read-fields-requires
     judge-requires
-    accepts-requires
+    is-refused-requires
     returns-3)

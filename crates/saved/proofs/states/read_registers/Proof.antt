@@ -1,4 +1,4 @@
-use Rattle.saved.proofs.Saving.{registers-next}
+use Rattle.saved.proofs.StateText.{registers-next}
 use Prim.Native.Nat.{_≤_, _-_}
 use native.Mathlib.Omega.{arith}
 use mathlib.Core.Path.{_≡_, refl, ap, _∙_}

@@ -1,5 +1,5 @@
 -- By the length of the text and its first line. Assumes nothing.
-use Rattle.saved.proofs.Saving.{saved-short, saved-nowhere, saved-at}
+use Rattle.saved.proofs.StateText.{saved-short, saved-nowhere, saved-at}
 use borrow.Author.Needs.{needs}
 use Rattle.saved.proofs.states.read_state.Statement.{statement}
 use Rattle.saved.proofs.states.read_state.Tie as tie

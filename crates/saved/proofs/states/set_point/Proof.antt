@@ -1,4 +1,4 @@
-use Rattle.saved.proofs.Lining.{point-line}
+use Rattle.saved.proofs.TextLines.{point-line}
 use borrow.Author.Needs.{needs}
 use Rattle.saved.proofs.states.set_point.Statement.{statement}
 use Rattle.saved.proofs.states.set_point.Tie as tie

@@ -1,4 +1,4 @@
-use Rattle.saved.proofs.Lining.{cut, register-line}
+use Rattle.saved.proofs.TextLines.{cut, register-line}
 use borrow.Author.Needs.{needs}
 use Rattle.saved.proofs.states.set_register.Statement.{statement}
 use Rattle.saved.proofs.states.set_register.Tie as tie

@@ -2,7 +2,7 @@
 use mathlib.Core.Path.{sym, _∙_}
 use native.Mathlib.Omega.{arith}
 use borrow.Author.Tests.{not-true, not-false}
-use Rattle.saved.proofs.Settings.{no-setting, other-setting, setting, setting-fits}
+use Rattle.saved.proofs.StateLines.{no-setting, other-setting, setting, setting-fits}
 use borrow.Author.Needs.{needs}
 use Rattle.saved.proofs.states.setting_on.Statement.{statement}
 use Rattle.saved.proofs.states.setting_on.Tie as tie

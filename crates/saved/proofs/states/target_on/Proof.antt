@@ -1,6 +1,6 @@
 -- A JUMP names its target. Assumes nothing.
 use mathlib.Core.Path.{sym, _∙_}
-use Rattle.saved.proofs.Settings.{no-target, target}
+use Rattle.saved.proofs.StateLines.{no-target, target}
 use borrow.Author.Needs.{needs}
 use Rattle.saved.proofs.states.target_on.Statement.{statement}
 use Rattle.saved.proofs.states.target_on.Tie as tie

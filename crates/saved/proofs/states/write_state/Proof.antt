@@ -1,4 +1,4 @@
-use Rattle.saved.proofs.Saving.{text-is}
+use Rattle.saved.proofs.StateText.{text-is}
 use borrow.Author.Needs.{needs}
 use Rattle.saved.proofs.states.write_state.Statement.{statement}
 use Rattle.saved.proofs.states.write_state.Tie as tie

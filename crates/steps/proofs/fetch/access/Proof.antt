@@ -1,6 +1,6 @@
 use mathlib.Core.Path.{sym, _∙_}
 use Rattle.decoded.specs.Rows.{rowAt}
-use Rattle.decoded.proofs.ByKind.{load-row, stor-row, branch-row}
+use Rattle.decoded.proofs.RowInstructions.{load-row, stor-row, branch-row}
 use borrow.Author.Needs.{needs}
 use Rattle.steps.proofs.fetch.access.Statement.{statement}
 use Rattle.steps.proofs.fetch.access.Tie as tie

@@ -1,6 +1,6 @@
 use mathlib.Core.Path.{sym, _∙_}
 use Rattle.decoded.specs.Rows.{rowAt}
-use Rattle.decoded.proofs.ByKind.{jump-row, bltu-row, bequ-row}
+use Rattle.decoded.proofs.RowInstructions.{jump-row, bltu-row, bequ-row}
 use borrow.Author.Needs.{needs}
 use Rattle.steps.proofs.fetch.branch.Statement.{statement}
 use Rattle.steps.proofs.fetch.branch.Tie as tie

@@ -1,5 +1,5 @@
 use mathlib.Core.Path.{sym}
-use Rattle.decoded.proofs.ByKind.{stop-kind}
+use Rattle.decoded.proofs.RowInstructions.{stop-kind}
 use borrow.Author.Needs.{needs}
 use Rattle.steps.proofs.fetch.is_stop.Statement.{statement}
 use Rattle.steps.proofs.fetch.is_stop.Tie as tie

@@ -1,4 +1,4 @@
-use Rattle.steps.proofs.Moves.{table-short}
+use Rattle.steps.proofs.InstructionSteps.{table-short}
 use native.Mathlib.Omega.{arith}
 use borrow.Author.Needs.{needs}
 use Rattle.steps.proofs.step.load_to.Statement.{statement}

@@ -1,4 +1,4 @@
-use Rattle.steps.proofs.Moves.{divisor, load-room, stor-room, stop-stepped, setc-stepped, copy-stepped, addw-stepped, subw-stepped, mulw-stepped, divf-stepped, load-stepped, stor-stepped, jump-stepped, bltu-stepped, bequ-stepped, steppable-as, stepped-as}
+use Rattle.steps.proofs.InstructionSteps.{divisor, load-room, stor-room, stop-stepped, setc-stepped, copy-stepped, addw-stepped, subw-stepped, mulw-stepped, divf-stepped, load-stepped, stor-stepped, jump-stepped, bltu-stepped, bequ-stepped, steppable-as, stepped-as}
 use borrow.Author.Needs.{needs}
 use Rattle.steps.proofs.step.step.Statement.{statement}
 use Rattle.steps.proofs.step.step.Tie as tie

@@ -1,4 +1,4 @@
-use Rattle.steps.proofs.Copying.{Copied, copied-none, copied-more, copied-all}
+use Rattle.steps.proofs.FilledArrays.{Copied, copied-none, copied-more, copied-all}
 use borrow.Author.Needs.{needs}
 use native.Mathlib.Omega.{arith}
 use Prim.Native.Nat.{_-_}

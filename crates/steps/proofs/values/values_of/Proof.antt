@@ -5,7 +5,7 @@ use lib.ListN.{length}
 use native.Mathlib.Omega.{arith}
 use borrow.Author.Needs.{needs}
 use Rattle.model.specs.Limits as Limits
-use Rattle.steps.proofs.Copying.{Followed, followed-none, followed-more, followed-all}
+use Rattle.steps.proofs.FilledArrays.{Followed, followed-none, followed-more, followed-all}
 use Rattle.steps.proofs.values.values_of.Statement.{statement}
 use Rattle.steps.proofs.values.values_of.Tie as tie
 

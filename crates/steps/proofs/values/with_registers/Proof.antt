@@ -1,7 +1,7 @@
 use mathlib.Core.Path.{_≡_}
 use lib.ListN.{length}
 use borrow.Author.Needs.{needs}
-use Rattle.steps.proofs.Copying.{Copied, copied-none, copied-more, copied-front}
+use Rattle.steps.proofs.FilledArrays.{Copied, copied-none, copied-more, copied-front}
 use Prim.Native.Nat.{_-_}
 use native.Mathlib.Omega.{arith}
 use Rattle.model.specs.Limits as Limits
