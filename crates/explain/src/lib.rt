@@ -1,13 +1,10 @@
 // Writes a refusal in words to standard error.
 use explained::shown::shown_line;
 use explained::shown::trimmed;
-use explained::words::advice;
-use explained::words::meaning;
+use explained::words::words;
 use libc::STDERR_FILENO;
 use model::answers::Refusal;
-use output::refusal::number;
-use output::refusal::place;
-use output::refusal::second_place;
+use output::refusal::numbers;
 
 // Writes a text without the spaces at its right.
 fn write_trimmed(text: &[u8]) {
@@ -32,16 +29,18 @@ fn write_line(name: &[u8], kind: &[u8], listing: &[u8], line: u64) {
 // Writes the lines that a refusal names, where it names any, and then its number, what it means and what to do, each behind the name
 // of the file.
 pub fn write_explanation(name: &[u8], listing: &[u8], r: Refusal) {
-    write_line(name, b", line ", listing, place(r));
-    write_line(name, b", claim line ", listing, second_place(r));
-    let means = meaning(r);
-    let asks = advice(r);
+    let told = numbers(r);
+    write_line(name, b", line ", listing, told.place);
+    write_line(name, b", claim line ", listing, told.second);
+    let text = words(r);
+    let meaning = text.meaning;
+    let advice = text.advice;
     io::write_all(STDERR_FILENO, name);
     io::write_all(STDERR_FILENO, b": ");
-    io::print_decimal(STDERR_FILENO, number(r));
+    io::print_decimal(STDERR_FILENO, told.number);
     io::write_all(STDERR_FILENO, b": ");
-    write_trimmed(&means);
+    write_trimmed(&meaning);
     io::write_all(STDERR_FILENO, b"; ");
-    write_trimmed(&asks);
+    write_trimmed(&advice);
     io::write_all(STDERR_FILENO, b"\n");
 }

@@ -1,3 +1,3 @@
 pub mod ShownLine
 pub mod TrimmedText
-pub mod Words
+pub mod TrimmedWords

@@ -1,7 +1,5 @@
 // The answers as arrays of numbers, for C and Rust.
-use crate::refusal::number;
-use crate::refusal::place;
-use crate::refusal::second_place;
+use crate::refusal::numbers;
 use model::answers::ClaimPart;
 use model::answers::Judgement;
 use model::answers::Report;
@@ -19,10 +17,8 @@ pub fn verdict_numbers(v: Verdict) -> [u64; 4]
             [0, 0, 0, n]
         }
         Verdict::Refused(r) => {
-            let n = number(r);
-            let p = place(r);
-            let s = second_place(r);
-            [n, p, s, 0]
+            let x = numbers(r);
+            [x.number, x.place, x.second, 0]
         }
     }
 }
@@ -37,9 +33,8 @@ pub fn part_numbers(c: ClaimPart) -> [u64; 4]
     match j {
         Judgement::Accepted => [0, 0, at, n],
         Judgement::Refused(r) => {
-            let k = number(r);
-            let p = place(r);
-            [k, p, at, n]
+            let x = numbers(r);
+            [x.number, x.place, at, n]
         }
     }
 }
@@ -54,10 +49,8 @@ pub fn run_numbers(report: Report, steps: u32, point: usize) -> [u64; 6]
         Report::Stopped => [0, 0, 0, 0, n, p],
         Report::Paused => [1, 0, 0, 0, n, p],
         Report::Refused(r) => {
-            let k = number(r);
-            let a = place(r);
-            let b = second_place(r);
-            [2, k, a, b, n, p]
+            let x = numbers(r);
+            [2, x.number, x.place, x.second, n, p]
         }
     }
 }

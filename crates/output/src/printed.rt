@@ -1,7 +1,5 @@
 // The line that the program prints for the checker's answer.
-use crate::refusal::number;
-use crate::refusal::place;
-use crate::refusal::second_place;
+use crate::refusal::numbers;
 use model::answers::Refusal;
 use model::answers::Verdict;
 use model::text::Field;
@@ -38,9 +36,10 @@ fn pass_fields(points: usize) -> [Field; 6]
 fn fail_fields(r: Refusal) -> [Field; 6]
     ensures { λ x. ⌜ x ≡ failFields r ⌝ }
 {
-    let n = Field::Number(number(r));
-    let second = place_field(second_place(r));
-    let first = Field::Number(place(r));
+    let x = numbers(r);
+    let n = Field::Number(x.number);
+    let second = place_field(x.second);
+    let first = Field::Number(x.place);
     [n, Field::Blank, Field::Blank, Field::Blank, second, first]
 }
 

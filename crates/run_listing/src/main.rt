@@ -21,7 +21,7 @@ use libc::STDERR_FILENO;
 use libc::STDOUT_FILENO;
 use model::answers::Report;
 use model::limits::GREATEST_SIZE;
-use output::refusal::number;
+use output::refusal::numbers;
 use output::run_line::answer_line;
 use recovery::left::Left;
 use recovery::names::beside;
@@ -179,7 +179,8 @@ fn explain_report(
         Report::Paused => {}
         Report::Refused(r) => {
             let mut name = io::buffer();
-            let file = file_of(number(r), trays.len());
+            let told = numbers(r);
+            let file = file_of(told.number, trays.len());
             let n = os::arg(name_of(file), &mut name);
             write_explanation(&name[..n], listing, r);
         }

@@ -3,7 +3,7 @@ use facts::sizes::STRIPE_NUMBERS;
 use facts::sizes::scaled;
 use model::limits::VARIABLES;
 ghost use mathlib.Core.Path.{_≡_};
-ghost use Prim.Native.Nat.{_*_, _<_};
+ghost use Prim.Native.Nat.{_*_, _≤_, _<_};
 ghost use lib.ListN.{length};
 ghost use Rattle.model.specs.Limits.{variables, MAX, greatestBound};
 ghost use Rattle.model.specs.Lists.{every};

@@ -8,18 +8,15 @@ enum-told c = search needs
 enum-known-j : tie.Need-enum-known-j
 enum-known-j c = search needs
 
-number-requires : tie.Need-number-requires
-number-requires c κs = search needs
-
-place-requires : tie.Need-place-requires
-place-requires c κs = search needs
+numbers-requires : tie.Need-numbers-requires
+numbers-requires c κs = search needs
 
 returns : tie.Need-returns
 returns c = simp (c .enum-told .given .1)
 
 returns-2 : tie.Need-returns-2
-returns-2 c = simp (← c .place .ensures, ← c .before .number .ensures, c .before .before .before .j .given .1)
+returns-2 c = rw (c .before .before .j .given .1) (let told = c .numbers .ensures in rw (told .0, told .1))
 
 pub part-numbers-spec : {M : Type 1} → statement M
 part-numbers-spec =
-    tie.close (tie.spec enum-told enum-known-j number-requires place-requires returns returns-2)
+    tie.close (tie.spec enum-told enum-known-j numbers-requires returns returns-2)

@@ -11,14 +11,8 @@ enum-told-2 c = search needs
 enum-known-report : tie.Need-enum-known-report
 enum-known-report c = search needs
 
-number-requires : tie.Need-number-requires
-number-requires c κs = search needs
-
-place-requires : tie.Need-place-requires
-place-requires c κs = search needs
-
-second-place-requires : tie.Need-second-place-requires
-second-place-requires c κs = search needs
+numbers-requires : tie.Need-numbers-requires
+numbers-requires c κs = search needs
 
 returns : tie.Need-returns
 returns c = simp (c .enum-told .given .1)
@@ -27,7 +21,7 @@ returns-2 : tie.Need-returns-2
 returns-2 c = simp (c .enum-told2 .given .1)
 
 returns-3 : tie.Need-returns-3
-returns-3 c = simp (← c .second-place .ensures, ← c .before .place .ensures, ← c .before .before .number .ensures, c .before .before .before .before .report .given .1)
+returns-3 c = rw (c .before .before .report .given .1) (let told = c .numbers .ensures in rw (told .0, told .1, told .2))
 
 pub run-numbers-spec : {M : Type 1} → statement M
 run-numbers-spec =
@@ -36,9 +30,7 @@ run-numbers-spec =
     enum-told
     enum-told-2
     enum-known-report
-    number-requires
-    place-requires
-    second-place-requires
+    numbers-requires
     returns
     returns-2
     returns-3)
