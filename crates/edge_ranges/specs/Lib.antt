@@ -1,2 +1,3 @@
 pub mod Changes
+pub mod Pairs
 pub mod Branches

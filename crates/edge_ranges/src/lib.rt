@@ -20,7 +20,8 @@ ghost use Rattle.model.specs.Transfer as Model;
 ghost use Rattle.model.specs.Transfer.{operandRange, operandChanged, sumFits, sumRange, differenceFits, differenceRange, productFits, productRange, quotientRange, atLeast, atMost, lessRanges, notLessRanges, equalRanges, unequalRanges, rangesAlong};
 ghost use Rattle.model.specs.Limited.{OperandLimited, Limited};
 ghost use Rattle.facts.specs.Known.{rangesOf, Word, Ends};
-ghost use Rattle.edge_ranges.specs.Changes.{Makes, sumAt, differenceAt, productAt, quotientAt};
+ghost use Rattle.edge_ranges.specs.Changes.{Makes};
+ghost use Rattle.edge_ranges.specs.Pairs.{pairOf};
 ghost use Rattle.edge_ranges.specs.Branches.{orderedRanges, matchedRanges};
 
 // The smaller of two numbers.
@@ -45,8 +46,14 @@ pub struct Changes {
     pub q: Range,
 }
 
+// The range of the variable i and that of the operand o of an instruction.
+pub struct Pair {
+    pub r: Range,
+    pub q: Range,
+}
+
 // The range of a variable.
-pub fn range_at<'a>(low: &'a [u64; VARIABLES], high: &'a [u64; VARIABLES], v: usize) -> Range
+fn range_at<'a>(low: &'a [u64; VARIABLES], high: &'a [u64; VARIABLES], v: usize) -> Range
     requires { ⌜ Ends (now low) (now high) ⌝ }
     requires { ⌜ v < variables ⌝ }
     ensures { λ r. ⌜ (r ≡ rangeOf (rangesOf (now (low .entry)) (now (high .entry))) v) × Word r ⌝ }
@@ -55,7 +62,7 @@ pub fn range_at<'a>(low: &'a [u64; VARIABLES], high: &'a [u64; VARIABLES], v: us
 }
 
 // The range of an operand.
-pub fn operand_range<'a>(low: &'a [u64; VARIABLES], high: &'a [u64; VARIABLES], o: Operand) -> Range
+fn operand_range<'a>(low: &'a [u64; VARIABLES], high: &'a [u64; VARIABLES], o: Operand) -> Range
     requires { ⌜ Ends (now low) (now high) ⌝ }
     requires { ⌜ OperandLimited o ⌝ }
     ensures { λ r. ⌜ (r ≡ operandRange (rangesOf (now (low .entry)) (now (high .entry))) o) × Word r ⌝ }
@@ -66,84 +73,101 @@ pub fn operand_range<'a>(low: &'a [u64; VARIABLES], high: &'a [u64; VARIABLES], 
     }
 }
 
-// Whether no sum of the two ranges wraps.
-pub fn sum_fits(r: Range, q: Range) -> bool
-    requires { ⌜ Word r × Word q ⌝ }
-    ensures { λ b. ⌜ b ≡ sumFits r q ⌝ }
+// The ranges that an instruction reads: of a variable and of an operand.
+pub fn ranges_at<'a>(
+    low: &'a [u64; VARIABLES],
+    high: &'a [u64; VARIABLES],
+    i: usize,
+    o: Operand,
+) -> Pair
+    requires { ⌜ Ends (now low) (now high) ⌝ }
+    requires { ⌜ (i < variables) × OperandLimited o ⌝ }
+    ensures { λ p. ⌜ (p ≡ pairOf (rangesOf (now (low .entry)) (now (high .entry))) i o) × Word (p .r) × Word (p .q) ⌝ }
 {
-    r.hi + q.hi <= MAX
+    Pair {
+        r: range_at(low, high, i),
+        q: operand_range(low, high, o),
+    }
+}
+
+// Whether no sum of the two ranges wraps.
+pub fn sum_fits(p: Pair) -> bool
+    requires { ⌜ Word (p .r) × Word (p .q) ⌝ }
+    ensures { λ b. ⌜ b ≡ sumFits (p .r) (p .q) ⌝ }
+{
+    p.r.hi + p.q.hi <= MAX
 }
 
 // The range of a sum.
-fn sum(r: Range, q: Range) -> Range
-    requires { ⌜ Word r × Word q ⌝ }
-    ensures { λ s. ⌜ s ≡ cond (sumFits r q) (sumRange r q) registerRange ⌝ }
+fn sum(p: Pair) -> Range
+    requires { ⌜ Word (p .r) × Word (p .q) ⌝ }
+    ensures { λ s. ⌜ s ≡ cond (sumFits (p .r) (p .q)) (sumRange (p .r) (p .q)) registerRange ⌝ }
 {
-    if sum_fits(r, q) {
-        Range::between(r.lo + q.lo, r.hi + q.hi)
+    if sum_fits(p) {
+        Range::between(p.r.lo + p.q.lo, p.r.hi + p.q.hi)
     } else {
         Range::REGISTER
     }
 }
 
 // Whether no difference of the two ranges wraps.
-pub fn difference_fits(r: Range, q: Range) -> bool
-    ensures { λ b. ⌜ b ≡ differenceFits r q ⌝ }
+pub fn difference_fits(p: Pair) -> bool
+    ensures { λ b. ⌜ b ≡ differenceFits (p .r) (p .q) ⌝ }
 {
-    q.hi <= r.lo
+    p.q.hi <= p.r.lo
 }
 
 // The range of a difference that does not wrap; nothing where its high end falls below 0.
-fn whole_difference(r: Range, q: Range) -> Range
-    requires { ⌜ q .hi ≤ r .lo ⌝ }
-    ensures { λ s. ⌜ s ≡ differenceRange r q ⌝ }
+fn whole_difference(p: Pair) -> Range
+    requires { ⌜ p .q .hi ≤ p .r .lo ⌝ }
+    ensures { λ s. ⌜ s ≡ differenceRange (p .r) (p .q) ⌝ }
 {
-    if r.hi < q.lo {
+    if p.r.hi < p.q.lo {
         return Range::nothing();
     }
-    Range::between(r.lo - q.hi, r.hi - q.lo)
+    Range::between(p.r.lo - p.q.hi, p.r.hi - p.q.lo)
 }
 
 // The range of a difference.
-fn difference(r: Range, q: Range) -> Range
-    ensures { λ s. ⌜ s ≡ cond (differenceFits r q) (differenceRange r q) registerRange ⌝ }
+fn difference(p: Pair) -> Range
+    ensures { λ s. ⌜ s ≡ cond (differenceFits (p .r) (p .q)) (differenceRange (p .r) (p .q)) registerRange ⌝ }
 {
-    if q.hi <= r.lo {
-        whole_difference(r, q)
+    if difference_fits(p) {
+        whole_difference(p)
     } else {
         Range::REGISTER
     }
 }
 
 // Whether no product of the two ranges wraps.
-pub fn product_fits(r: Range, q: Range) -> bool
-    requires { ⌜ Word r × Word q ⌝ }
-    ensures { λ b. ⌜ b ≡ productFits r q ⌝ }
+pub fn product_fits(p: Pair) -> bool
+    requires { ⌜ Word (p .r) × Word (p .q) ⌝ }
+    ensures { λ b. ⌜ b ≡ productFits (p .r) (p .q) ⌝ }
 {
-    r.hi * q.hi <= MAX
+    p.r.hi * p.q.hi <= MAX
 }
 
 // The range of a product.
-fn product(r: Range, q: Range) -> Range
-    requires { ⌜ Word r × Word q ⌝ }
-    ensures { λ s. ⌜ s ≡ cond (productFits r q) (productRange r q) registerRange ⌝ }
+fn product(p: Pair) -> Range
+    requires { ⌜ Word (p .r) × Word (p .q) ⌝ }
+    ensures { λ s. ⌜ s ≡ cond (productFits (p .r) (p .q)) (productRange (p .r) (p .q)) registerRange ⌝ }
 {
-    if product_fits(r, q) {
-        Range::between(r.lo * q.lo, r.hi * q.hi)
+    if product_fits(p) {
+        Range::between(p.r.lo * p.q.lo, p.r.hi * p.q.hi)
     } else {
         Range::REGISTER
     }
 }
 
 // The range of a quotient; nothing where the divisor is 0.
-fn quotient(r: Range, q: Range) -> Range
-    ensures { λ s. ⌜ s ≡ quotientRange r q ⌝ }
+fn quotient(p: Pair) -> Range
+    ensures { λ s. ⌜ s ≡ quotientRange (p .r) (p .q) ⌝ }
 {
-    if q.hi == 0 {
+    if p.q.hi == 0 {
         return Range::nothing();
     }
-    let least = larger(q.lo, 1);
-    Range::between(r.lo / q.hi, r.hi / least)
+    let least = larger(p.q.lo, 1);
+    Range::between(p.r.lo / p.q.hi, p.r.hi / least)
 }
 
 // The values of so many bytes.
@@ -222,57 +246,6 @@ fn without(c: u64, r: Range) -> Range
     Range::between(lo, hi)
 }
 
-// The range that ADDW gives.
-fn sum_at<'a>(low: &'a [u64; VARIABLES], high: &'a [u64; VARIABLES], i: usize, o: Operand) -> Range
-    requires { ⌜ Ends (now low) (now high) ⌝ }
-    requires { ⌜ (i < variables) × OperandLimited o ⌝ }
-    ensures { λ s. ⌜ s ≡ sumAt (rangesOf (now (low .entry)) (now (high .entry))) i o ⌝ }
-{
-    sum(range_at(low, high, i), operand_range(low, high, o))
-}
-
-// The range that SUBW gives.
-fn difference_at<'a>(
-    low: &'a [u64; VARIABLES],
-    high: &'a [u64; VARIABLES],
-    i: usize,
-    o: Operand,
-) -> Range
-    requires { ⌜ Ends (now low) (now high) ⌝ }
-    requires { ⌜ (i < variables) × OperandLimited o ⌝ }
-    ensures { λ s. ⌜ s ≡ differenceAt (rangesOf (now (low .entry)) (now (high .entry))) i o ⌝ }
-{
-    difference(range_at(low, high, i), operand_range(low, high, o))
-}
-
-// The range that MULW gives.
-fn product_at<'a>(
-    low: &'a [u64; VARIABLES],
-    high: &'a [u64; VARIABLES],
-    i: usize,
-    o: Operand,
-) -> Range
-    requires { ⌜ Ends (now low) (now high) ⌝ }
-    requires { ⌜ (i < variables) × OperandLimited o ⌝ }
-    ensures { λ s. ⌜ s ≡ productAt (rangesOf (now (low .entry)) (now (high .entry))) i o ⌝ }
-{
-    product(range_at(low, high, i), operand_range(low, high, o))
-}
-
-// The range that DIVF gives.
-fn quotient_at<'a>(
-    low: &'a [u64; VARIABLES],
-    high: &'a [u64; VARIABLES],
-    i: usize,
-    o: Operand,
-) -> Range
-    requires { ⌜ Ends (now low) (now high) ⌝ }
-    requires { ⌜ (i < variables) × OperandLimited o ⌝ }
-    ensures { λ s. ⌜ s ≡ quotientAt (rangesOf (now (low .entry)) (now (high .entry))) i o ⌝ }
-{
-    quotient(range_at(low, high, i), operand_range(low, high, o))
-}
-
 // The range of one variable changed.
 fn one(v: usize, r: Range) -> Changes
     requires { ⌜ v < variables ⌝ }
@@ -318,111 +291,69 @@ fn both(i: usize, r: Range, o: Operand, q: Range) -> Changes
 }
 
 // BLTU taken: hi(i) below hi(o), lo(o) above lo(i).
-fn less_ranges<'a>(
-    low: &'a [u64; VARIABLES],
-    high: &'a [u64; VARIABLES],
-    i: usize,
-    o: Operand,
-) -> Changes
-    requires { ⌜ Ends (now low) (now high) ⌝ }
+fn less_ranges(p: Pair, i: usize, o: Operand) -> Changes
+    requires { ⌜ Word (p .r) ⌝ }
     requires { ⌜ (i < variables) × OperandLimited o ⌝ }
-    ensures { λ s. ⌜ Makes s (rangesOf (now (low .entry)) (now (high .entry))) (lessRanges i o (rangesOf (now (low .entry)) (now (high .entry)))) ⌝ }
+    ensures { λ s. ⌜ ((rs : List Range) → i < length rs → p ≡ pairOf rs i o → Makes s rs (lessRanges i o rs)) ⌝ }
 {
-    let r = range_at(low, high, i);
-    let q = operand_range(low, high, o);
-    let first = below(q.hi, r);
-    let after = operand_after(i, first, o, q);
-    both(i, first, o, at_least(r.lo + 1, after))
+    let first = below(p.q.hi, p.r);
+    let after = operand_after(i, first, o, p.q);
+    both(i, first, o, at_least(p.r.lo + 1, after))
 }
 
 // BLTU not taken: lo(i) at least lo(o), hi(o) at most hi(i).
-fn not_less_ranges<'a>(
-    low: &'a [u64; VARIABLES],
-    high: &'a [u64; VARIABLES],
-    i: usize,
-    o: Operand,
-) -> Changes
-    requires { ⌜ Ends (now low) (now high) ⌝ }
+fn not_less_ranges(p: Pair, i: usize, o: Operand) -> Changes
     requires { ⌜ (i < variables) × OperandLimited o ⌝ }
-    ensures { λ s. ⌜ Makes s (rangesOf (now (low .entry)) (now (high .entry))) (notLessRanges i o (rangesOf (now (low .entry)) (now (high .entry)))) ⌝ }
+    ensures { λ s. ⌜ ((rs : List Range) → i < length rs → p ≡ pairOf rs i o → Makes s rs (notLessRanges i o rs)) ⌝ }
 {
-    let r = range_at(low, high, i);
-    let q = operand_range(low, high, o);
-    let first = at_least(q.lo, r);
-    let after = operand_after(i, first, o, q);
-    both(i, first, o, at_most(r.hi, after))
+    let first = at_least(p.q.lo, p.r);
+    let after = operand_after(i, first, o, p.q);
+    both(i, first, o, at_most(p.r.hi, after))
 }
 
 // BEQU taken: both ranges become their overlap.
-fn equal_ranges<'a>(
-    low: &'a [u64; VARIABLES],
-    high: &'a [u64; VARIABLES],
-    i: usize,
-    o: Operand,
-) -> Changes
-    requires { ⌜ Ends (now low) (now high) ⌝ }
+fn equal_ranges(p: Pair, i: usize, o: Operand) -> Changes
     requires { ⌜ (i < variables) × OperandLimited o ⌝ }
-    ensures { λ s. ⌜ Makes s (rangesOf (now (low .entry)) (now (high .entry))) (equalRanges i o (rangesOf (now (low .entry)) (now (high .entry)))) ⌝ }
+    ensures { λ s. ⌜ ((rs : List Range) → i < length rs → p ≡ pairOf rs i o → Makes s rs (equalRanges i o rs)) ⌝ }
 {
-    let r = range_at(low, high, i);
-    let q = operand_range(low, high, o);
-    let first = overlap(q, r);
-    let after = operand_after(i, first, o, q);
-    both(i, first, o, overlap(r, after))
+    let first = overlap(p.q, p.r);
+    let after = operand_after(i, first, o, p.q);
+    both(i, first, o, overlap(p.r, after))
 }
 
 // BEQU not taken: an end of i equal to the one value of o moves inward.
-fn unequal_ranges<'a>(
-    low: &'a [u64; VARIABLES],
-    high: &'a [u64; VARIABLES],
-    i: usize,
-    o: Operand,
-) -> Changes
-    requires { ⌜ Ends (now low) (now high) ⌝ }
-    requires { ⌜ (i < variables) × OperandLimited o ⌝ }
-    ensures { λ s. ⌜ Makes s (rangesOf (now (low .entry)) (now (high .entry))) (unequalRanges i o (rangesOf (now (low .entry)) (now (high .entry)))) ⌝ }
+fn unequal_ranges(p: Pair, i: usize) -> Changes
+    requires { ⌜ Word (p .q) ⌝ }
+    requires { ⌜ i < variables ⌝ }
+    ensures { λ s. ⌜ ((rs : List Range) (o : Operand) → p ≡ pairOf rs i o → Makes s rs (unequalRanges i o rs)) ⌝ }
 {
-    let r = range_at(low, high, i);
-    let q = operand_range(low, high, o);
-    if q.lo == q.hi {
-        return one(i, without(q.lo, r));
+    if p.q.lo == p.q.hi {
+        return one(i, without(p.q.lo, p.r));
     }
-    unchanged(low, high)
+    one(i, p.r)
 }
 
 // The changes along an edge of BLTU.
-fn ordered_ranges<'a>(
-    e: Edge,
-    low: &'a [u64; VARIABLES],
-    high: &'a [u64; VARIABLES],
-    i: usize,
-    o: Operand,
-) -> Changes
-    requires { ⌜ Ends (now low) (now high) ⌝ }
+fn ordered_ranges(e: Edge, p: Pair, i: usize, o: Operand) -> Changes
+    requires { ⌜ Word (p .r) ⌝ }
     requires { ⌜ (i < variables) × OperandLimited o ⌝ }
-    ensures { λ s. ⌜ Makes s (rangesOf (now (low .entry)) (now (high .entry))) (orderedRanges e i o (rangesOf (now (low .entry)) (now (high .entry)))) ⌝ }
+    ensures { λ s. ⌜ ((rs : List Range) → i < length rs → p ≡ pairOf rs i o → Makes s rs (orderedRanges e i o rs)) ⌝ }
 {
     match e {
-        Edge::Next => not_less_ranges(low, high, i, o),
-        Edge::Target(u) => less_ranges(low, high, i, o),
+        Edge::Next => not_less_ranges(p, i, o),
+        Edge::Target(u) => less_ranges(p, i, o),
     }
 }
 
 // The changes along an edge of BEQU.
-fn matched_ranges<'a>(
-    e: Edge,
-    low: &'a [u64; VARIABLES],
-    high: &'a [u64; VARIABLES],
-    i: usize,
-    o: Operand,
-) -> Changes
-    requires { ⌜ Ends (now low) (now high) ⌝ }
+fn matched_ranges(e: Edge, p: Pair, i: usize, o: Operand) -> Changes
+    requires { ⌜ Word (p .q) ⌝ }
     requires { ⌜ (i < variables) × OperandLimited o ⌝ }
-    ensures { λ s. ⌜ Makes s (rangesOf (now (low .entry)) (now (high .entry))) (matchedRanges e i o (rangesOf (now (low .entry)) (now (high .entry)))) ⌝ }
+    ensures { λ s. ⌜ ((rs : List Range) → i < length rs → p ≡ pairOf rs i o → Makes s rs (matchedRanges e i o rs)) ⌝ }
 {
     match e {
-        Edge::Next => unequal_ranges(low, high, i, o),
-        Edge::Target(u) => equal_ranges(low, high, i, o),
+        Edge::Next => unequal_ranges(p, i),
+        Edge::Target(u) => equal_ranges(p, i, o),
     }
 }
 
@@ -441,10 +372,10 @@ pub fn changes_along<'a>(
         Instruction::Stop => unchanged(low, high),
         Instruction::Setc { d, c } => one(d, Range::exactly(c as u64)),
         Instruction::Copy { d, i } => one(d, range_at(low, high, i)),
-        Instruction::Addw { d, i, o } => one(d, sum_at(low, high, i, o)),
-        Instruction::Subw { d, i, o } => one(d, difference_at(low, high, i, o)),
-        Instruction::Mulw { d, i, o } => one(d, product_at(low, high, i, o)),
-        Instruction::Divf { d, i, o } => one(d, quotient_at(low, high, i, o)),
+        Instruction::Addw { d, i, o } => one(d, sum(ranges_at(low, high, i, o))),
+        Instruction::Subw { d, i, o } => one(d, difference(ranges_at(low, high, i, o))),
+        Instruction::Mulw { d, i, o } => one(d, product(ranges_at(low, high, i, o))),
+        Instruction::Divf { d, i, o } => one(d, quotient(ranges_at(low, high, i, o))),
         Instruction::Load {
             d,
             w,
@@ -455,8 +386,8 @@ pub fn changes_along<'a>(
         } => one(d, loaded(w)),
         Instruction::Stor { v, w, a, i, k } => unchanged(low, high),
         Instruction::Jump { t } => unchanged(low, high),
-        Instruction::Bltu { i, t, o } => ordered_ranges(e, low, high, i, o),
-        Instruction::Bequ { i, t, o } => matched_ranges(e, low, high, i, o),
+        Instruction::Bltu { i, t, o } => ordered_ranges(e, ranges_at(low, high, i, o), i, o),
+        Instruction::Bequ { i, t, o } => matched_ranges(e, ranges_at(low, high, i, o), i, o),
     }
 }
 

@@ -1,9 +1,7 @@
 -- An operand that is a variable is set to its changed range. Assumes nothing.
 use borrow.Author.Needs.{needs}
-use mathlib.Core.List.{List}
-use mathlib.Core.Path.{_≡_, ap, _∙_}
+use mathlib.Core.Path.{ap, _∙_}
 use lib.ListN.{set}
-use Rattle.model.specs.declared.claims.Range.{Range}
 use Rattle.model.specs.Transfer.{operandRange}
 use Rattle.edge_ranges.proofs.both.Statement.{statement}
 use Rattle.edge_ranges.proofs.both.Tie as tie

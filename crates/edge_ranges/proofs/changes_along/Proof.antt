@@ -2,14 +2,23 @@
 use borrow.Author.Needs.{needs}
 use mathlib.Core.Path.{subst}
 use mathlib.Core.List.{List}
+use Prim.Native.Nat.{ℕ, _<_}
 use native.Mathlib.Omega.{arith}
+use lib.ListN.{length}
 use Rattle.model.specs.declared.claims.Range.{Range}
+use Rattle.model.specs.Limits.{variables}
 use Rattle.model.specs.Transfer.{rangesAlong}
-use Rattle.facts.specs.Known.{rangesOf}
+use Rattle.facts.specs.Known.{rangesOf, Ends}
+use Rattle.facts.proofs.ArrayContents.{ranges-long}
+use Rattle.facts.proofs.PointArrays.{ends-even}
 use Rattle.edge_ranges.specs.Changes.{Makes}
 use Rattle.edge_ranges.proofs.HighEnds.{ordered-ranges, matched-ranges}
 use Rattle.edge_ranges.proofs.changes_along.Statement.{statement}
 use Rattle.edge_ranges.proofs.changes_along.Tie as tie
+
+-- a variable has a range
+among : (low high : List ℕ) → Ends low high → {v : ℕ} → v < variables → v < length (rangesOf low high)
+among low high ends h = rw (ranges-long low high (ends-even low high ends)) (omega (arith, ends .lows .long))
 
 enum-told : tie.Need-enum-told
 enum-told c = search needs
@@ -47,53 +56,65 @@ one-requires-2 c κs =
 enum-known-i-3 : tie.Need-enum-known-i-3
 enum-known-i-3 c = search needs
 
-sum-at-requires : tie.Need-sum-at-requires
-sum-at-requires c κs =
+ranges-at-requires : tie.Need-ranges-at-requires
+ranges-at-requires c κs =
     let h = rw (c .before .i3 .given .1) at (c .before .before .before .pre .1) in
     (c .before .before .before .pre .0, (h .variable, h .operand))
 
+sum-requires : tie.Need-sum-requires
+sum-requires c κs = search needs
+
 one-requires-3 : tie.Need-one-requires-3
 one-requires-3 c κs =
-    let h = rw (c .before .before .i3 .given .1) at (c .before .before .before .before .pre .1) in
+    let h = rw (c .before .before .before .i3 .given .1) at (c .before .before .before .before .before .pre .1) in
     omega arith
 
 enum-known-i-4 : tie.Need-enum-known-i-4
 enum-known-i-4 c = search needs
 
-difference-at-requires : tie.Need-difference-at-requires
-difference-at-requires c κs =
+ranges-at-requires-2 : tie.Need-ranges-at-requires-2
+ranges-at-requires-2 c κs =
     let h = rw (c .before .i4 .given .1) at (c .before .before .before .pre .1) in
     (c .before .before .before .pre .0, (h .variable, h .operand))
 
+difference-requires : tie.Need-difference-requires
+difference-requires c κs = search needs
+
 one-requires-4 : tie.Need-one-requires-4
 one-requires-4 c κs =
-    let h = rw (c .before .before .i4 .given .1) at (c .before .before .before .before .pre .1) in
+    let h = rw (c .before .before .before .i4 .given .1) at (c .before .before .before .before .before .pre .1) in
     omega arith
 
 enum-known-i-5 : tie.Need-enum-known-i-5
 enum-known-i-5 c = search needs
 
-product-at-requires : tie.Need-product-at-requires
-product-at-requires c κs =
+ranges-at-requires-3 : tie.Need-ranges-at-requires-3
+ranges-at-requires-3 c κs =
     let h = rw (c .before .i5 .given .1) at (c .before .before .before .pre .1) in
     (c .before .before .before .pre .0, (h .variable, h .operand))
 
+product-requires : tie.Need-product-requires
+product-requires c κs = search needs
+
 one-requires-5 : tie.Need-one-requires-5
 one-requires-5 c κs =
-    let h = rw (c .before .before .i5 .given .1) at (c .before .before .before .before .pre .1) in
+    let h = rw (c .before .before .before .i5 .given .1) at (c .before .before .before .before .before .pre .1) in
     omega arith
 
 enum-known-i-6 : tie.Need-enum-known-i-6
 enum-known-i-6 c = search needs
 
-quotient-at-requires : tie.Need-quotient-at-requires
-quotient-at-requires c κs =
+ranges-at-requires-4 : tie.Need-ranges-at-requires-4
+ranges-at-requires-4 c κs =
     let h = rw (c .before .i6 .given .1) at (c .before .before .before .pre .1) in
     (c .before .before .before .pre .0, (h .variable, h .operand))
 
+quotient-requires : tie.Need-quotient-requires
+quotient-requires c κs = search needs
+
 one-requires-6 : tie.Need-one-requires-6
 one-requires-6 c κs =
-    let h = rw (c .before .before .i6 .given .1) at (c .before .before .before .before .pre .1) in
+    let h = rw (c .before .before .before .i6 .given .1) at (c .before .before .before .before .before .pre .1) in
     omega arith
 
 enum-known-i-7 : tie.Need-enum-known-i-7
@@ -122,18 +143,28 @@ unchanged-requires-3 c κs = search needs
 enum-known-i-10 : tie.Need-enum-known-i-10
 enum-known-i-10 c = search needs
 
-ordered-ranges-requires : tie.Need-ordered-ranges-requires
-ordered-ranges-requires c κs =
+ranges-at-requires-5 : tie.Need-ranges-at-requires-5
+ranges-at-requires-5 c κs =
     let h = rw (c .before .i10 .given .1) at (c .before .before .before .pre .1) in
     (c .before .before .before .pre .0, (h .variable, h .operand))
+
+ordered-ranges-requires : tie.Need-ordered-ranges-requires
+ordered-ranges-requires c κs =
+    let h = rw (c .before .before .i10 .given .1) at (c .before .before .before .before .pre .1) in
+    (c .ranges-at5 .ensures .1, (h .variable, h .operand))
 
 enum-known-i-11 : tie.Need-enum-known-i-11
 enum-known-i-11 c = search needs
 
-matched-ranges-requires : tie.Need-matched-ranges-requires
-matched-ranges-requires c κs =
+ranges-at-requires-6 : tie.Need-ranges-at-requires-6
+ranges-at-requires-6 c κs =
     let h = rw (c .before .i11 .given .1) at (c .before .before .before .pre .1) in
     (c .before .before .before .pre .0, (h .variable, h .operand))
+
+matched-ranges-requires : tie.Need-matched-ranges-requires
+matched-ranges-requires c κs =
+    let h = rw (c .before .before .i11 .given .1) at (c .before .before .before .before .pre .1) in
+    (c .ranges-at6 .ensures .2, (h .variable, h .operand))
 
 returns : tie.Need-returns
 unfolding rangesAlong
@@ -154,26 +185,26 @@ returns-3 c =
 returns-4 : tie.Need-returns-4
 unfolding rangesAlong
 returns-4 c =
-    let a = c .before .before .before .before .before .args in
-    rw (c .before .before .before .i3 .given .1) (rw (c .before .sum-at .ensures) at (c .one3 .ensures (rangesOf (a .low .now) (a .high .now))))
+    let a = c .before .before .before .before .before .before .args in
+    rw (c .before .before .before .before .i3 .given .1) (rw (c .before .sum .ensures, c .before .before .ranges-at .ensures .0) at (c .one3 .ensures (rangesOf (a .low .now) (a .high .now))))
 
 returns-5 : tie.Need-returns-5
 unfolding rangesAlong
 returns-5 c =
-    let a = c .before .before .before .before .before .args in
-    rw (c .before .before .before .i4 .given .1) (rw (c .before .difference-at .ensures) at (c .one4 .ensures (rangesOf (a .low .now) (a .high .now))))
+    let a = c .before .before .before .before .before .before .args in
+    rw (c .before .before .before .before .i4 .given .1) (rw (c .before .difference .ensures, c .before .before .ranges-at2 .ensures .0) at (c .one4 .ensures (rangesOf (a .low .now) (a .high .now))))
 
 returns-6 : tie.Need-returns-6
 unfolding rangesAlong
 returns-6 c =
-    let a = c .before .before .before .before .before .args in
-    rw (c .before .before .before .i5 .given .1) (rw (c .before .product-at .ensures) at (c .one5 .ensures (rangesOf (a .low .now) (a .high .now))))
+    let a = c .before .before .before .before .before .before .args in
+    rw (c .before .before .before .before .i5 .given .1) (rw (c .before .product .ensures, c .before .before .ranges-at3 .ensures .0) at (c .one5 .ensures (rangesOf (a .low .now) (a .high .now))))
 
 returns-7 : tie.Need-returns-7
 unfolding rangesAlong
 returns-7 c =
-    let a = c .before .before .before .before .before .args in
-    rw (c .before .before .before .i6 .given .1) (rw (c .before .quotient-at .ensures) at (c .one6 .ensures (rangesOf (a .low .now) (a .high .now))))
+    let a = c .before .before .before .before .before .before .args in
+    rw (c .before .before .before .before .i6 .given .1) (rw (c .before .quotient .ensures, c .before .before .ranges-at4 .ensures .0) at (c .one6 .ensures (rangesOf (a .low .now) (a .high .now))))
 
 returns-8 : tie.Need-returns-8
 unfolding rangesAlong
@@ -191,15 +222,21 @@ returns-10 c = rw (c .before .before .i9 .given .1) (c .unchanged3 .ensures)
 
 returns-11 : tie.Need-returns-11
 returns-11 c =
-    let a = c .before .before .before .before .args in
+    let start = c .before .before .before .before .before in
+    let a = start .args in
     let rs : List Range = rangesOf (a .low .now) (a .high .now) in
-    rw (c .before .before .i10 .given .1) (subst (Makes (c .ordered-ranges .result) rs) (ordered-ranges _ _ _ _ rs) (c .ordered-ranges .ensures))
+    let told = c .before .before .before .i10 .given .1 in
+    let h = rw told at (start .pre .1) in
+    rw told (subst (Makes (c .ordered-ranges .result) rs) (ordered-ranges _ _ _ _ rs) (c .ordered-ranges .ensures rs (among (a .low .now) (a .high .now) (start .pre .0) (h .variable)) (c .before .ranges-at5 .ensures .0)))
 
 returns-12 : tie.Need-returns-12
 returns-12 c =
-    let a = c .before .before .before .before .args in
+    let start = c .before .before .before .before .before in
+    let a = start .args in
     let rs : List Range = rangesOf (a .low .now) (a .high .now) in
-    rw (c .before .before .i11 .given .1) (subst (Makes (c .matched-ranges .result) rs) (matched-ranges _ _ _ _ rs) (c .matched-ranges .ensures))
+    let told = c .before .before .before .i11 .given .1 in
+    let h = rw told at (start .pre .1) in
+    rw told (subst (Makes (c .matched-ranges .result) rs) (matched-ranges _ _ _ _ rs) (c .matched-ranges .ensures rs (among (a .low .now) (a .high .now) (start .pre .0) (h .variable)) (c .before .ranges-at6 .ensures .0)))
 
 pub changes-along-spec : {M : Type 1} → statement M
 changes-along-spec =
@@ -215,16 +252,20 @@ changes-along-spec =
     range-at-requires
     one-requires-2
     enum-known-i-3
-    sum-at-requires
+    ranges-at-requires
+    sum-requires
     one-requires-3
     enum-known-i-4
-    difference-at-requires
+    ranges-at-requires-2
+    difference-requires
     one-requires-4
     enum-known-i-5
-    product-at-requires
+    ranges-at-requires-3
+    product-requires
     one-requires-5
     enum-known-i-6
-    quotient-at-requires
+    ranges-at-requires-4
+    quotient-requires
     one-requires-6
     enum-known-i-7
     loaded-requires
@@ -234,8 +275,10 @@ changes-along-spec =
     enum-known-i-9
     unchanged-requires-3
     enum-known-i-10
+    ranges-at-requires-5
     ordered-ranges-requires
     enum-known-i-11
+    ranges-at-requires-6
     matched-ranges-requires
     returns
     returns-2

@@ -1,16 +1,21 @@
 use borrow.Author.Needs.{needs}
-use borrow.Author.Tests.{le-leb, lt-leb}
+use borrow.Author.Tests.{leb-true}
+use mathlib.Core.Path.{sym, _∙_}
 use Rattle.edge_ranges.proofs.difference.Statement.{statement}
 use Rattle.edge_ranges.proofs.difference.Tie as tie
 
+difference-fits-requires : tie.Need-difference-fits-requires
+difference-fits-requires c κs = search needs
+
 whole-difference-requires : tie.Need-whole-difference-requires
-whole-difference-requires c κs = search needs
+whole-difference-requires c κs = leb-true _ _ (sym (c .before .difference-fits .ensures) ∙ c .if1 .taken)
 
 returns : tie.Need-returns
-returns c = rw (le-leb _ _ (c .before .if1 .taken)) (c .whole-difference .ensures)
+returns c = rw (← c .before .before .difference-fits .ensures, c .before .if1 .taken) (c .whole-difference .ensures)
 
 returns-2 : tie.Need-returns-2
-returns-2 c = rw (lt-leb _ _ (c .if1 .left))
+returns-2 c = rw (← c .before .difference-fits .ensures, c .if1 .left)
 
 pub difference-spec : {M : Type 1} → statement M
-difference-spec = tie.close (tie.spec whole-difference-requires returns returns-2)
+difference-spec =
+    tie.close (tie.spec difference-fits-requires whole-difference-requires returns returns-2)

@@ -1,24 +1,9 @@
 -- Both changes are those of the definition. Assumes nothing.
 use borrow.Author.Needs.{needs}
-use mathlib.Core.Path.{ap, _∙_}
-use mathlib.Core.List.{List}
-use Prim.Native.Nat.{_<_}
-use native.Mathlib.Omega.{arith}
-use lib.ListN.{length}
-use Rattle.model.specs.declared.claims.Range.{Range}
-use Rattle.model.specs.Facts.{rangeOf}
 use Rattle.model.specs.Transfer.{overlap}
-use Rattle.facts.specs.Known.{rangesOf}
-use Rattle.facts.proofs.ArrayContents.{ranges-long}
-use Rattle.facts.proofs.PointArrays.{ends-even}
+use Rattle.edge_ranges.proofs.BranchRanges.{changed-twice}
 use Rattle.edge_ranges.proofs.equal_ranges.Statement.{statement}
 use Rattle.edge_ranges.proofs.equal_ranges.Tie as tie
-
-range-at-requires : tie.Need-range-at-requires
-range-at-requires c κs = search needs
-
-operand-range-requires : tie.Need-operand-range-requires
-operand-range-requires c κs = search needs
 
 overlap-requires : tie.Need-overlap-requires
 overlap-requires c κs = search needs
@@ -33,26 +18,11 @@ both-requires : tie.Need-both-requires
 both-requires c κs = search needs
 
 returns : tie.Need-returns
-returns c =
-    let start = c .before .before .before .before .before .before in
-    let a = start .args in
-    let rs : List Range = rangesOf (a .low .now) (a .high .now) in
-    let even = ends-even (a .low .now) (a .high .now) (start .pre .0) in
-    let inside : a .i < length rs = rw (ranges-long (a .low .now) (a .high .now) even) (omega (arith, start .pre .0 .lows .long)) in
-    let own = c .before .before .before .before .before .range-at .ensures .0 in
-    let read = c .before .before .before .before .operand-range .ensures .0 in
-    let after = c .before .before .operand-after .ensures rs inside read in
-    let second = c .before .overlap2 .ensures ∙ ap (λ (r : Range). overlap r (c .before .before .operand-after .result)) own ∙ ap (overlap (rangeOf rs (a .i))) after in
-    rw (c .before .before .before .overlap .ensures, read, own) at (c .both .ensures rs (overlap (rangeOf rs (a .i))) second)
+returns c rs inside read =
+    let a = c .before .before .before .before .args in
+    changed-twice rs (a .i) (a .o) overlap overlap read (c .before .before .before .overlap .ensures) (c .before .before .operand-after .ensures rs inside) (c .before .overlap2 .ensures) (c .both .ensures rs)
 
 pub equal-ranges-spec : {M : Type 1} → statement M
 equal-ranges-spec =
     tie.close
-    (tie.spec
-    range-at-requires
-    operand-range-requires
-    overlap-requires
-    operand-after-requires
-    overlap-requires-2
-    both-requires
-    returns)
+    (tie.spec overlap-requires operand-after-requires overlap-requires-2 both-requires returns)

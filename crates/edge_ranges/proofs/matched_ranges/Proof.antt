@@ -16,10 +16,10 @@ equal-ranges-requires : tie.Need-equal-ranges-requires
 equal-ranges-requires c κs = search needs
 
 returns : tie.Need-returns
-returns c = rw (c .before .enum-told .given .1) (c .unequal-ranges .ensures)
+returns c rs inside read = rw (c .before .enum-told .given .1) (c .unequal-ranges .ensures rs (c .before .before .before .args .o) read)
 
 returns-2 : tie.Need-returns-2
-returns-2 c = rw (c .before .before .e .given .1) (c .equal-ranges .ensures)
+returns-2 c rs inside read = rw (c .before .before .e .given .1) (c .equal-ranges .ensures rs inside read)
 
 pub matched-ranges-spec : {M : Type 1} → statement M
 matched-ranges-spec =

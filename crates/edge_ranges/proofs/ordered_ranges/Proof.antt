@@ -16,10 +16,10 @@ less-ranges-requires : tie.Need-less-ranges-requires
 less-ranges-requires c κs = search needs
 
 returns : tie.Need-returns
-returns c = rw (c .before .enum-told .given .1) (c .not-less-ranges .ensures)
+returns c rs inside read = rw (c .before .enum-told .given .1) (c .not-less-ranges .ensures rs inside read)
 
 returns-2 : tie.Need-returns-2
-returns-2 c = rw (c .before .before .e .given .1) (c .less-ranges .ensures)
+returns-2 c rs inside read = rw (c .before .before .e .given .1) (c .less-ranges .ensures rs inside read)
 
 pub ordered-ranges-spec : {M : Type 1} → statement M
 ordered-ranges-spec =

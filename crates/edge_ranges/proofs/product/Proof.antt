@@ -8,18 +8,18 @@ product-fits-requires : tie.Need-product-fits-requires
 product-fits-requires c κs = search needs
 
 mul-between : tie.Need-mul-between
-mul-between c = omega (arith, mul-le-mul (c .before .before .before .before .pre .0 .low) (c .before .before .before .before .pre .1 .low))
+mul-between c = omega (arith, mul-le-mul (c .before .before .before .pre .0 .low) (c .before .before .before .pre .1 .low))
 
 mul-between-2 : tie.Need-mul-between-2
 mul-between-2 c =
-    let start = c .before .before .before .before .before .before in
+    let start = c .before .before .before .before in
     omega (arith, mul-le-mul (start .pre .0 .high) (start .pre .1 .high))
 
 between-requires : tie.Need-between-requires
 between-requires c κs = search needs
 
 returns : tie.Need-returns
-returns c = rw (← c .before .before .before .before .before .before .product-fits .ensures, c .before .before .before .before .before .if1 .taken) (c .between .ensures)
+returns c = rw (← c .before .before .before .before .product-fits .ensures, c .before .before .before .if1 .taken) (c .between .ensures)
 
 returns-2 : tie.Need-returns-2
 returns-2 c = rw (← c .before .product-fits .ensures, c .if1 .left)

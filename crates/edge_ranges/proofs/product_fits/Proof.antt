@@ -5,7 +5,7 @@ use Rattle.edge_ranges.proofs.product_fits.Statement.{statement}
 use Rattle.edge_ranges.proofs.product_fits.Tie as tie
 
 mul-result : tie.Need-mul-result
-mul-result c = omega (arith, mul-le-mul (c .before .before .pre .0 .high) (c .before .before .pre .1 .high))
+mul-result c = omega (arith, mul-le-mul (c .before .pre .0 .high) (c .before .pre .1 .high))
 
 returns : tie.Need-returns
 returns c = search needs

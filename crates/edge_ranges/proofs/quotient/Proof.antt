@@ -22,7 +22,7 @@ between-requires : tie.Need-between-requires
 between-requires c κs = search needs
 
 returns-2 : tie.Need-returns-2
-returns-2 c = rw (ne-eqb _ _ (c .before .before .before .before .before .if1 .left)) (cc)
+returns-2 c = rw (ne-eqb _ _ (c .before .before .before .before .if1 .left)) (cc)
 
 pub quotient-spec : {M : Type 1} → statement M
 quotient-spec =

@@ -15,7 +15,7 @@ between-requires : tie.Need-between-requires
 between-requires c κs = search needs
 
 returns : tie.Need-returns
-returns c = rw (← c .before .before .before .before .before .before .sum-fits .ensures, c .before .before .before .before .before .if1 .taken) (c .between .ensures)
+returns c = rw (← c .before .before .before .before .sum-fits .ensures, c .before .before .before .if1 .taken) (c .between .ensures)
 
 returns-2 : tie.Need-returns-2
 returns-2 c = rw (← c .before .sum-fits .ensures, c .if1 .left)

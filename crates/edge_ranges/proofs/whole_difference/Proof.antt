@@ -16,7 +16,7 @@ between-requires : tie.Need-between-requires
 between-requires c κs = search needs
 
 returns-2 : tie.Need-returns-2
-returns-2 c = rw (le-leb _ _ (c .before .before .before .before .before .if1 .left)) (c .between .ensures)
+returns-2 c = rw (le-leb _ _ (c .before .before .before .if1 .left)) (c .between .ensures)
 
 pub whole-difference-spec : {M : Type 1} → statement M
 whole-difference-spec =
