@@ -9,10 +9,10 @@ use Rattle.model.specs.Limits.{greatestBound}
 use Rattle.model.specs.Lists.{kept}
 use Rattle.model.specs.Transfer.{names, dropped, shifted, boundInLimits, allShifted}
 use Rattle.facts.specs.StripeRows.{SizedRows, stripeAt}
-use Rattle.edge_stripes.specs.declared.Kept.{Kept}
-use Rattle.edge_stripes.specs.declared.Kept.the-variants.{All, Without, Shifted}
-use Rattle.edge_stripes.specs.declared.Added.{Added}
-use Rattle.edge_stripes.specs.declared.Added.the-variants.{Nothing, One, Two}
+use Rattle.edge_stripes.specs.declared.KeptStripes.{KeptStripes}
+use Rattle.edge_stripes.specs.declared.KeptStripes.the-variants.{All, Without, Shifted}
+use Rattle.edge_stripes.specs.declared.AddedStripes.{AddedStripes}
+use Rattle.edge_stripes.specs.declared.AddedStripes.the-variants.{Nothing, One, Two}
 use Rattle.facts.specs.Known.{stripesOf, Small, Standing}
 use Rattle.edge_stripes.specs.Plans.{keptOf, addedTo, Extends}
 use Rattle.facts.proofs.ArrayContents.{stripes-more}
@@ -61,18 +61,18 @@ map-both : (f : Stripe → Stripe) (xs ys : List Stripe) → map f (xs ++ ys) �
 map-both f [] ys = refl
 map-both f (x ∷ xs) ys = ap (λ (l : List Stripe). f x ∷ l) (map-both f xs ys)
 
-keeps-both : (k : Kept) (xs ys : List Stripe) → keptOf k (xs ++ ys) ≡ keptOf k xs ++ keptOf k ys
+keeps-both : (k : KeptStripes) (xs ys : List Stripe) → keptOf k (xs ++ ys) ≡ keptOf k xs ++ keptOf k ys
 keeps-both All xs ys = refl
 keeps-both (Without d) xs ys = kept-both _ xs ys
 keeps-both (Shifted d up down) xs ys = ap (kept boundInLimits) (map-both (shifted d up down) xs ys) ∙ kept-both boundInLimits (map (shifted d up down) xs) (map (shifted d up down) ys)
 
 -- of the first stripes
-module _ (k : Kept) (stripes : List ℕ) where
+module _ (k : KeptStripes) (stripes : List ℕ) where
   none-kept : keptOf k (stripesOf stripes 0) ≡ []
   unfolding stripesOf kept
   none-kept = go k
     where
-      go : (k : Kept) → keptOf k (stripesOf stripes 0) ≡ []
+      go : (k : KeptStripes) → keptOf k (stripesOf stripes 0) ≡ []
       go All = refl
       go (Without d) = refl
       go (Shifted d up down) = refl
@@ -85,12 +85,12 @@ module _ (k : Kept) (stripes : List ℕ) where
       rw (stripes-more stripes i, ← e, keeps-both k (stripesOf stripes i) (s ∷ [])) (extends-both done new)
 
 -- what is added stands in front
-front : (a : Added) (ss : List Stripe) → addedTo a [] ++ ss ≡ addedTo a ss
+front : (a : AddedStripes) (ss : List Stripe) → addedTo a [] ++ ss ≡ addedTo a ss
 front Nothing ss = refl
 front (One s) ss = refl
 front (Two s t) ss = refl
 
-pub added-kept : {old mid new : List ℕ} {m r : ℕ} (a : Added) (ss : List Stripe) → Extends old 0 mid m (addedTo a []) → Extends mid m new r ss → stripesOf new r ≡ addedTo a ss
+pub added-kept : {old mid new : List ℕ} {m r : ℕ} (a : AddedStripes) (ss : List Stripe) → Extends old 0 mid m (addedTo a []) → Extends mid m new r ss → stripesOf new r ≡ addedTo a ss
 unfolding stripesOf
 added-kept a ss e f = f .same ∙ ap (λ (l : List Stripe). l ++ ss) (e .same) ∙ front a ss
 

@@ -6,33 +6,33 @@ use Rattle.model.specs.declared.claims.Stripe.{Stripe}
 use Rattle.model.specs.Limits.{MAX, greatestBound}
 use Rattle.model.specs.Transfer.{dropped, allShifted}
 use Rattle.facts.specs.StripeRows.{SizedRows}
-use Rattle.edge_stripes.specs.declared.Kept.{Kept}
-use Rattle.edge_stripes.specs.declared.Kept.the-variants.{All, Without, Shifted}
-use Rattle.edge_stripes.specs.declared.Added.{Added}
-use Rattle.edge_stripes.specs.declared.Added.the-variants.{Nothing, One, Two}
+use Rattle.edge_stripes.specs.declared.KeptStripes.{KeptStripes}
+use Rattle.edge_stripes.specs.declared.KeptStripes.the-variants.{All, Without, Shifted}
+use Rattle.edge_stripes.specs.declared.AddedStripes.{AddedStripes}
+use Rattle.edge_stripes.specs.declared.AddedStripes.the-variants.{Nothing, One, Two}
 use Rattle.edge_stripes.specs.declared.Plan.{Plan}
 use Rattle.facts.specs.Known.{stripesOf, Small}
 
 -- what is kept of the stripes that stand
-abbrev pub keptOf : Kept → List Stripe → List Stripe
+abbrev pub keptOf : KeptStripes → List Stripe → List Stripe
 keptOf All ss = ss
 keptOf (Without d) ss = dropped d ss
 keptOf (Shifted d up down) ss = allShifted d up down ss
 
 -- what is added, in front of others
-abbrev pub addedTo : Added → List Stripe → List Stripe
+abbrev pub addedTo : AddedStripes → List Stripe → List Stripe
 addedTo Nothing ss = ss
 addedTo (One s) ss = s ∷ ss
 addedTo (Two s t) ss = s ∷ t ∷ ss
 
 -- a shift is by values of a register
-abbrev pub ShiftLimited : Kept → Type 0
+abbrev pub ShiftLimited : KeptStripes → Type 0
 ShiftLimited All = Unit {0}
 ShiftLimited (Without d) = Unit {0}
 ShiftLimited (Shifted d up down) = (up ≤ MAX) × (down ≤ MAX)
 
 -- what is added has bounds within the limits
-abbrev pub AddedLimited : Added → Type 0
+abbrev pub AddedLimited : AddedStripes → Type 0
 AddedLimited Nothing = Unit {0}
 AddedLimited (One s) = Small greatestBound s
 AddedLimited (Two s t) = Small greatestBound s × Small greatestBound t

@@ -1,10 +1,10 @@
 // What an edge does to the stripes, a function for each rule, and how that is carried out.
 use edge_ranges::difference_fits;
-use edge_ranges::operand_range;
 use edge_ranges::product_fits;
-use edge_ranges::range_at;
+use edge_ranges::ranges_at;
 use edge_ranges::sum_fits;
 use facts::sizes::STRIPE_NUMBERS;
+use facts::sizes::scaled;
 use facts::stripe_rows::write_stripe;
 use model::claims::Stripe;
 use model::limits::BLANK_VARIABLE;
@@ -17,14 +17,13 @@ use model::machine::Operand;
 ghost use mathlib.Core.Path.{_≡_};
 ghost use mathlib.Core.Bool.{cond};
 ghost use mathlib.Core.List.{List, [], _∷_};
-ghost use Prim.Native.Nat.{_+_, _*_, _<_, _≤_};
+ghost use Prim.Native.Nat.{_+_, _<_, _≤_};
 ghost use lib.Dec.{eqb};
 ghost use Rattle.model.specs.declared.claims.Stripe.{Stripe};
 ghost use Rattle.model.specs.declared.machine.Operand.the-variants.{Number};
 ghost use Rattle.model.specs.Limits.{variables, MAX, greatestBound};
-ghost use Rattle.model.specs.Facts.{rangeOf};
 ghost use Rattle.model.specs.Transfer as Model;
-ghost use Rattle.model.specs.Transfer.{operandRange, sumFits, differenceFits, productFits, boundInLimits, ifIs, byNumber, sumStripes, differenceStripes, productStripes, lessStripes, notLessStripes, equalStripes, stripesAlong};
+ghost use Rattle.model.specs.Transfer.{boundInLimits, ifIs, byNumber, sumStripes, differenceStripes, productStripes, lessStripes, notLessStripes, equalStripes, stripesAlong};
 ghost use Rattle.model.specs.Limited.{OperandLimited, ArithmeticLimited, Limited};
 ghost use Rattle.facts.specs.Sizes as goal;
 ghost use Rattle.facts.specs.Sizes.{greatestPart};
@@ -34,14 +33,14 @@ ghost use Rattle.edge_stripes.specs.Plans.{keptOf, addedTo, ShiftLimited
 ghost use Rattle.edge_ranges.specs.Branches.{orderedStripes, matchedStripes};
 
 // What is kept of the stripes that stand: all, those that do not name d, or all once d has become d + up - down.
-pub enum Kept {
+pub enum KeptStripes {
     All,
     Without { d: u8 },
     Shifted { d: u8, up: u64, down: u64 },
 }
 
 // What is added in front of them.
-pub enum Added {
+pub enum AddedStripes {
     Nothing,
     One { s: Stripe },
     Two { s: Stripe, t: Stripe },
@@ -49,8 +48,8 @@ pub enum Added {
 
 // What an edge does to the stripes.
 pub struct Plan {
-    pub kept: Kept,
-    pub added: Added,
+    pub kept: KeptStripes,
+    pub added: AddedStripes,
 }
 
 // Whether the stripe names d.
@@ -67,14 +66,6 @@ fn if_is(d: u8, v: u8, n: u64) -> u64
     if v == d { n } else { 0 }
 }
 
-// a * b, for a number b below twice a word.
-fn scaled(a: u8, b: u64) -> u64
-    requires { ⌜ b ≤ 8589934590 ⌝ }
-    ensures { λ r. ⌜ (r ≡ a * b) × (r ≤ 2190433320450) ⌝ }
-{
-    a as u64 * b
-}
-
 // The stripe once d has become d + up - down.
 fn shifted(s: Stripe, d: u8, up: u64, down: u64) -> Stripe
     requires { ⌜ Small greatestBound s ⌝ }
@@ -82,10 +73,11 @@ fn shifted(s: Stripe, d: u8, up: u64, down: u64) -> Stripe
     ensures { λ r. ⌜ r ≡ Model.shifted d up down s ⌝ }
     ensures { λ r. ⌜ Small greatestPart r ⌝ }
 {
+    let a = s.a as u64;
     let more = if_is(d, s.x, up);
     let less = if_is(d, s.x, down);
-    let plus = s.plus + more + scaled(s.a, if_is(d, s.y, down) + if_is(d, s.z, down));
-    let minus = s.minus + less + scaled(s.a, if_is(d, s.y, up) + if_is(d, s.z, up));
+    let plus = s.plus + more + scaled(a, if_is(d, s.y, down) + if_is(d, s.z, down));
+    let minus = s.minus + less + scaled(a, if_is(d, s.y, up) + if_is(d, s.z, up));
     Stripe {
         x: s.x,
         a: s.a,
@@ -109,8 +101,8 @@ fn all() -> Plan
     ensures { λ p. ⌜ Does p (λ (ss : List Stripe). ss) ⌝ }
 {
     Plan {
-        kept: Kept::All,
-        added: Added::Nothing,
+        kept: KeptStripes::All,
+        added: AddedStripes::Nothing,
     }
 }
 
@@ -120,8 +112,8 @@ fn dropped(d: usize) -> Plan
     ensures { λ p. ⌜ Does p (λ (ss : List Stripe). Model.dropped d ss) ⌝ }
 {
     Plan {
-        kept: Kept::Without { d: d as u8 },
-        added: Added::Nothing,
+        kept: KeptStripes::Without { d: d as u8 },
+        added: AddedStripes::Nothing,
     }
 }
 
@@ -131,8 +123,8 @@ fn one_and_all(s: Stripe) -> Plan
     ensures { λ p. ⌜ Does p (λ (ss : List Stripe). s ∷ ss) ⌝ }
 {
     Plan {
-        kept: Kept::All,
-        added: Added::One { s },
+        kept: KeptStripes::All,
+        added: AddedStripes::One { s },
     }
 }
 
@@ -142,8 +134,8 @@ fn two_and_all(s: Stripe, t: Stripe) -> Plan
     ensures { λ p. ⌜ Does p (λ (ss : List Stripe). s ∷ t ∷ ss) ⌝ }
 {
     Plan {
-        kept: Kept::All,
-        added: Added::Two { s, t },
+        kept: KeptStripes::All,
+        added: AddedStripes::Two { s, t },
     }
 }
 
@@ -154,8 +146,8 @@ fn one_and_dropped(s: Stripe, d: usize) -> Plan
     ensures { λ p. ⌜ Does p (λ (ss : List Stripe). s ∷ Model.dropped d ss) ⌝ }
 {
     Plan {
-        kept: Kept::Without { d: d as u8 },
-        added: Added::One { s },
+        kept: KeptStripes::Without { d: d as u8 },
+        added: AddedStripes::One { s },
     }
 }
 
@@ -166,8 +158,8 @@ fn two_and_dropped(s: Stripe, t: Stripe, d: usize) -> Plan
     ensures { λ p. ⌜ Does p (λ (ss : List Stripe). s ∷ t ∷ Model.dropped d ss) ⌝ }
 {
     Plan {
-        kept: Kept::Without { d: d as u8 },
-        added: Added::Two { s, t },
+        kept: KeptStripes::Without { d: d as u8 },
+        added: AddedStripes::Two { s, t },
     }
 }
 
@@ -178,12 +170,12 @@ fn all_shifted(d: usize, up: u64, down: u64) -> Plan
     ensures { λ p. ⌜ Does p (λ (ss : List Stripe). Model.allShifted d up down ss) ⌝ }
 {
     Plan {
-        kept: Kept::Shifted {
+        kept: KeptStripes::Shifted {
             d: d as u8,
             up,
             down,
         },
-        added: Added::Nothing,
+        added: AddedStripes::Nothing,
     }
 }
 
@@ -327,56 +319,13 @@ fn equal_stripes(i: usize, o: Operand) -> Plan
     }
 }
 
-// The stripes after ADDW.
-fn stripes_of_sum<'a>(
-    low: &'a [u64; VARIABLES],
-    high: &'a [u64; VARIABLES],
-    d: usize,
-    i: usize,
-    o: Operand,
-) -> Plan
-    requires { ⌜ Ends (now low) (now high) ⌝ }
-    requires { ⌜ ArithmeticLimited d i o ⌝ }
-    ensures { λ p. ⌜ Does p (λ (ss : List Stripe). cond (sumFits (rangeOf (rangesOf (now (low .entry)) (now (high .entry))) i) (operandRange (rangesOf (now (low .entry)) (now (high .entry))) o)) (sumStripes d i o ss) (Model.dropped d ss)) ⌝ }
+// The plan where nothing wraps, else the stripes that do not name d.
+fn if_fits(fits: bool, p: Plan, d: usize) -> Plan
+    requires { ⌜ d < variables ⌝ }
+    ensures { λ r. ⌜ ((f : List Stripe → List Stripe) → Does p f → Does r (λ (ss : List Stripe). cond fits (f ss) (Model.dropped d ss))) ⌝ }
 {
-    if sum_fits(range_at(low, high, i), operand_range(low, high, o)) {
-        return sum_stripes(d, i, o);
-    }
-    dropped(d)
-}
-
-// The stripes after SUBW.
-fn stripes_of_difference<'a>(
-    low: &'a [u64; VARIABLES],
-    high: &'a [u64; VARIABLES],
-    d: usize,
-    i: usize,
-    o: Operand,
-) -> Plan
-    requires { ⌜ Ends (now low) (now high) ⌝ }
-    requires { ⌜ ArithmeticLimited d i o ⌝ }
-    ensures { λ p. ⌜ Does p (λ (ss : List Stripe). cond (differenceFits (rangeOf (rangesOf (now (low .entry)) (now (high .entry))) i) (operandRange (rangesOf (now (low .entry)) (now (high .entry))) o)) (differenceStripes d i o ss) (Model.dropped d ss)) ⌝ }
-{
-    if difference_fits(range_at(low, high, i), operand_range(low, high, o)) {
-        return difference_stripes(d, i, o);
-    }
-    dropped(d)
-}
-
-// The stripes after MULW.
-fn stripes_of_product<'a>(
-    low: &'a [u64; VARIABLES],
-    high: &'a [u64; VARIABLES],
-    d: usize,
-    i: usize,
-    o: Operand,
-) -> Plan
-    requires { ⌜ Ends (now low) (now high) ⌝ }
-    requires { ⌜ ArithmeticLimited d i o ⌝ }
-    ensures { λ p. ⌜ Does p (λ (ss : List Stripe). cond (productFits (rangeOf (rangesOf (now (low .entry)) (now (high .entry))) i) (operandRange (rangesOf (now (low .entry)) (now (high .entry))) o)) (productStripes d i o ss) (Model.dropped d ss)) ⌝ }
-{
-    if product_fits(range_at(low, high, i), operand_range(low, high, o)) {
-        return product_stripes(d, i, o);
+    if fits {
+        return p;
     }
     dropped(d)
 }
@@ -418,9 +367,21 @@ pub fn plan_along<'a>(
         Instruction::Stop => all(),
         Instruction::Setc { d, c } => dropped(d),
         Instruction::Copy { d, i } => copy_stripes(d, i),
-        Instruction::Addw { d, i, o } => stripes_of_sum(low, high, d, i, o),
-        Instruction::Subw { d, i, o } => stripes_of_difference(low, high, d, i, o),
-        Instruction::Mulw { d, i, o } => stripes_of_product(low, high, d, i, o),
+        Instruction::Addw { d, i, o } => if_fits(
+            sum_fits(ranges_at(low, high, i, o)),
+            sum_stripes(d, i, o),
+            d,
+        ),
+        Instruction::Subw { d, i, o } => if_fits(
+            difference_fits(ranges_at(low, high, i, o)),
+            difference_stripes(d, i, o),
+            d,
+        ),
+        Instruction::Mulw { d, i, o } => if_fits(
+            product_fits(ranges_at(low, high, i, o)),
+            product_stripes(d, i, o),
+            d,
+        ),
         Instruction::Divf { d, i, o } => dropped(d),
         Instruction::Load {
             d,
@@ -454,7 +415,7 @@ fn stripe_at(stripes: &[u64; STRIPE_NUMBERS], i: usize) -> Stripe
 }
 
 // Writes the stripe after the first m stripes, and answers how many there are then.
-fn put(stripes: &mut [u64; STRIPE_NUMBERS], m: usize, s: Stripe) -> usize
+fn append(stripes: &mut [u64; STRIPE_NUMBERS], m: usize, s: Stripe) -> usize
     requires { ⌜ SizedRows (now stripes) ⌝ }
     requires { ⌜ (m < goal.edgeStripes) × goal.Small s ⌝ }
     ensures { λ r. ⌜ Extends (now (stripes .entry)) m (now (stripes .exit)) r (s ∷ []) × (r ≡ m + 1) ⌝ }
@@ -464,23 +425,23 @@ fn put(stripes: &mut [u64; STRIPE_NUMBERS], m: usize, s: Stripe) -> usize
 }
 
 // Writes what is added as the first stripes, and answers how many they are.
-fn put_added(a: Added, stripes: &mut [u64; STRIPE_NUMBERS]) -> usize
+fn append_added(a: AddedStripes, stripes: &mut [u64; STRIPE_NUMBERS]) -> usize
     requires { ⌜ SizedRows (now stripes) ⌝ }
     requires { ⌜ AddedLimited a ⌝ }
     ensures { λ r. ⌜ Extends (now (stripes .entry)) 0 (now (stripes .exit)) r (addedTo a []) × (r ≤ 2) ⌝ }
 {
     match a {
-        Added::Nothing => 0,
-        Added::One { s } => put(stripes, 0, s),
-        Added::Two { s, t } => {
-            let m = put(stripes, 0, s);
-            put(stripes, m, t)
+        AddedStripes::Nothing => 0,
+        AddedStripes::One { s } => append(stripes, 0, s),
+        AddedStripes::Two { s, t } => {
+            let m = append(stripes, 0, s);
+            append(stripes, m, t)
         }
     }
 }
 
 // Writes what is kept of a stripe after the first m stripes, and answers how many there are then.
-fn put_kept(k: Kept, s: Stripe, stripes: &mut [u64; STRIPE_NUMBERS], m: usize) -> usize
+fn append_kept(k: KeptStripes, s: Stripe, stripes: &mut [u64; STRIPE_NUMBERS], m: usize) -> usize
     requires { ⌜ Small greatestBound s ⌝ }
     requires { ⌜ ShiftLimited k ⌝ }
     requires { ⌜ SizedRows (now stripes) ⌝ }
@@ -488,17 +449,17 @@ fn put_kept(k: Kept, s: Stripe, stripes: &mut [u64; STRIPE_NUMBERS], m: usize) -
     ensures { λ r. ⌜ Extends (now (stripes .entry)) m (now (stripes .exit)) r (keptOf k (s ∷ [])) × (r ≤ m + 1) ⌝ }
 {
     match k {
-        Kept::All => put(stripes, m, s),
-        Kept::Without { d } => {
+        KeptStripes::All => append(stripes, m, s),
+        KeptStripes::Without { d } => {
             if names(s, d) {
                 return m;
             }
-            put(stripes, m, s)
+            append(stripes, m, s)
         }
-        Kept::Shifted { d, up, down } => {
+        KeptStripes::Shifted { d, up, down } => {
             let t = shifted(s, d, up, down);
             if bound_in_limits(t) {
-                return put(stripes, m, t);
+                return append(stripes, m, t);
             }
             m
         }
@@ -506,8 +467,8 @@ fn put_kept(k: Kept, s: Stripe, stripes: &mut [u64; STRIPE_NUMBERS], m: usize) -
 }
 
 // Writes what is kept of the first n stripes after the first m new ones, and answers how many there are then.
-fn put_all<'a>(
-    k: Kept,
+fn append_all<'a>(
+    k: KeptStripes,
     stripes: &'a [u64; STRIPE_NUMBERS],
     n: usize,
     new_rows: &'a mut [u64; STRIPE_NUMBERS],
@@ -522,7 +483,7 @@ fn put_all<'a>(
     let mut r = m;
     let mut i = 0;
     while i < n {
-        r = put_kept(k, stripe_at(stripes, i), new_rows, r);
+        r = append_kept(k, stripe_at(stripes, i), new_rows, r);
         i += 1;
     }
     r
@@ -542,6 +503,6 @@ pub fn carry_out<'a>(
 {
     let a = p.added;
     let k = p.kept;
-    let m = put_added(a, new_rows);
-    put_all(k, stripes, n, new_rows, m)
+    let m = append_added(a, new_rows);
+    append_all(k, stripes, n, new_rows, m)
 }

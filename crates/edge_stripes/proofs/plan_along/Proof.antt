@@ -35,20 +35,59 @@ copy-stripes-requires c κs =
 enum-known-i-3 : tie.Need-enum-known-i-3
 enum-known-i-3 c = search needs
 
-stripes-of-sum-requires : tie.Need-stripes-of-sum-requires
-stripes-of-sum-requires c κs = (c .before .before .before .pre .0, rw (c .before .i3 .given .1) at (c .before .before .before .pre .1))
+ranges-at-requires : tie.Need-ranges-at-requires
+ranges-at-requires c κs =
+    let h = rw (c .before .i3 .given .1) at (c .before .before .before .pre .1) in
+    (c .before .before .before .pre .0, (h .variable, h .operand))
+
+sum-fits-requires : tie.Need-sum-fits-requires
+sum-fits-requires c κs = search needs
+
+sum-stripes-requires : tie.Need-sum-stripes-requires
+sum-stripes-requires c κs = rw (c .before .before .before .i3 .given .1) at (c .before .before .before .before .before .pre .1)
+
+if-fits-requires : tie.Need-if-fits-requires
+if-fits-requires c κs =
+    let h = rw (c .before .before .before .before .i3 .given .1) at (c .before .before .before .before .before .before .pre .1) in
+    omega arith
 
 enum-known-i-4 : tie.Need-enum-known-i-4
 enum-known-i-4 c = search needs
 
-stripes-of-difference-requires : tie.Need-stripes-of-difference-requires
-stripes-of-difference-requires c κs = (c .before .before .before .pre .0, rw (c .before .i4 .given .1) at (c .before .before .before .pre .1))
+ranges-at-requires-2 : tie.Need-ranges-at-requires-2
+ranges-at-requires-2 c κs =
+    let h = rw (c .before .i4 .given .1) at (c .before .before .before .pre .1) in
+    (c .before .before .before .pre .0, (h .variable, h .operand))
+
+difference-fits-requires : tie.Need-difference-fits-requires
+difference-fits-requires c κs = search needs
+
+difference-stripes-requires : tie.Need-difference-stripes-requires
+difference-stripes-requires c κs = rw (c .before .before .before .i4 .given .1) at (c .before .before .before .before .before .pre .1)
+
+if-fits-requires-2 : tie.Need-if-fits-requires-2
+if-fits-requires-2 c κs =
+    let h = rw (c .before .before .before .before .i4 .given .1) at (c .before .before .before .before .before .before .pre .1) in
+    omega arith
 
 enum-known-i-5 : tie.Need-enum-known-i-5
 enum-known-i-5 c = search needs
 
-stripes-of-product-requires : tie.Need-stripes-of-product-requires
-stripes-of-product-requires c κs = (c .before .before .before .pre .0, rw (c .before .i5 .given .1) at (c .before .before .before .pre .1))
+ranges-at-requires-3 : tie.Need-ranges-at-requires-3
+ranges-at-requires-3 c κs =
+    let h = rw (c .before .i5 .given .1) at (c .before .before .before .pre .1) in
+    (c .before .before .before .pre .0, (h .variable, h .operand))
+
+product-fits-requires : tie.Need-product-fits-requires
+product-fits-requires c κs = search needs
+
+product-stripes-requires : tie.Need-product-stripes-requires
+product-stripes-requires c κs = rw (c .before .before .before .i5 .given .1) at (c .before .before .before .before .before .pre .1)
+
+if-fits-requires-3 : tie.Need-if-fits-requires-3
+if-fits-requires-3 c κs =
+    let h = rw (c .before .before .before .before .i5 .given .1) at (c .before .before .before .before .before .before .pre .1) in
+    omega arith
 
 enum-known-i-6 : tie.Need-enum-known-i-6
 enum-known-i-6 c = search needs
@@ -108,15 +147,15 @@ returns-3 c = rw (c .before .before .i2 .given .1) (c .copy-stripes .ensures)
 
 returns-4 : tie.Need-returns-4
 unfolding stripesAlong
-returns-4 c = rw (c .before .before .i3 .given .1) (c .stripes-of-sum .ensures)
+returns-4 c = rw (c .before .before .before .before .before .i3 .given .1) (rw (c .before .before .sum-fits .ensures, c .before .before .before .ranges-at .ensures .0) at (c .if-fits .ensures _ (c .before .sum-stripes .ensures)))
 
 returns-5 : tie.Need-returns-5
 unfolding stripesAlong
-returns-5 c = rw (c .before .before .i4 .given .1) (c .stripes-of-difference .ensures)
+returns-5 c = rw (c .before .before .before .before .before .i4 .given .1) (rw (c .before .before .difference-fits .ensures, c .before .before .before .ranges-at2 .ensures .0) at (c .if-fits2 .ensures _ (c .before .difference-stripes .ensures)))
 
 returns-6 : tie.Need-returns-6
 unfolding stripesAlong
-returns-6 c = rw (c .before .before .i5 .given .1) (c .stripes-of-product .ensures)
+returns-6 c = rw (c .before .before .before .before .before .i5 .given .1) (rw (c .before .before .product-fits .ensures, c .before .before .before .ranges-at3 .ensures .0) at (c .if-fits3 .ensures _ (c .before .product-stripes .ensures)))
 
 returns-7 : tie.Need-returns-7
 unfolding stripesAlong
@@ -161,11 +200,20 @@ plan-along-spec =
     enum-known-i-2
     copy-stripes-requires
     enum-known-i-3
-    stripes-of-sum-requires
+    ranges-at-requires
+    sum-fits-requires
+    sum-stripes-requires
+    if-fits-requires
     enum-known-i-4
-    stripes-of-difference-requires
+    ranges-at-requires-2
+    difference-fits-requires
+    difference-stripes-requires
+    if-fits-requires-2
     enum-known-i-5
-    stripes-of-product-requires
+    ranges-at-requires-3
+    product-fits-requires
+    product-stripes-requires
+    if-fits-requires-3
     enum-known-i-6
     dropped-requires-2
     enum-known-i-7

@@ -3,6 +3,9 @@ use native.Mathlib.Omega.{arith}
 use Rattle.edge_stripes.proofs.shifted.Statement.{statement}
 use Rattle.edge_stripes.proofs.shifted.Tie as tie
 
+cast-a : tie.Need-cast-a
+cast-a c = search needs
+
 if-is-requires : tie.Need-if-is-requires
 if-is-requires c κs = search needs
 
@@ -52,6 +55,7 @@ pub shifted-spec : {M : Type 1} → statement M
 shifted-spec =
     tie.close
     (tie.spec
+    cast-a
     if-is-requires
     if-is-requires-2
     add-plus

@@ -2,8 +2,8 @@
 use borrow.Author.Needs.{needs}
 use native.Mathlib.Omega.{arith}
 use Rattle.edge_stripes.proofs.WrittenStripes.{extends-none, extends-both}
-use Rattle.edge_stripes.proofs.put_added.Statement.{statement}
-use Rattle.edge_stripes.proofs.put_added.Tie as tie
+use Rattle.edge_stripes.proofs.append_added.Statement.{statement}
+use Rattle.edge_stripes.proofs.append_added.Tie as tie
 
 enum-told : tie.Need-enum-told
 enum-told c = search needs
@@ -11,8 +11,8 @@ enum-told c = search needs
 enum-known-a : tie.Need-enum-known-a
 enum-known-a c = search needs
 
-put-requires : tie.Need-put-requires
-put-requires c κs =
+append-requires : tie.Need-append-requires
+append-requires c κs =
     let start = c .before .before .before .before in
     let h = rw (c .before .before .a .given .1) at (start .pre .1) in
     (start .pre .0, (omega arith, record { plus = omega arith; minus = omega arith }))
@@ -20,16 +20,16 @@ put-requires c κs =
 enum-known-a-2 : tie.Need-enum-known-a-2
 enum-known-a-2 c = search needs
 
-put-requires-2 : tie.Need-put-requires-2
-put-requires-2 c κs =
+append-requires-2 : tie.Need-append-requires-2
+append-requires-2 c κs =
     let start = c .before .before .before .before in
     let h = rw (c .before .before .a2 .given .1) at (start .pre .1) in
     (start .pre .0, (omega arith, record { plus = omega (arith, h .0 .plus); minus = omega (arith, h .0 .minus) }))
 
-put-requires-3 : tie.Need-put-requires-3
-put-requires-3 c κs =
+append-requires-3 : tie.Need-append-requires-3
+append-requires-3 c κs =
     let h = rw (c .before .before .before .before .a2 .given .1) at (c .before .before .before .before .before .before .pre .1) in
-    (c .before .put2 .ensures .0 .sized, (omega (arith, c .before .put2 .ensures .1), record { plus = omega (arith, h .1 .plus); minus = omega (arith, h .1 .minus) }))
+    (c .before .append2 .ensures .0 .sized, (omega (arith, c .before .append2 .ensures .1), record { plus = omega (arith, h .1 .plus); minus = omega (arith, h .1 .minus) }))
 
 returns : tie.Need-returns
 returns c =
@@ -37,21 +37,21 @@ returns c =
     (rw (c .enum-told .given .1) (extends-none (start .args .stripes .now) 0 (start .pre .0)), omega arith)
 
 returns-2 : tie.Need-returns-2
-returns-2 c = (rw (c .before .before .before .a .given .1) (c .put .ensures .0), omega (arith, c .put .ensures .1))
+returns-2 c = (rw (c .before .before .before .a .given .1) (c .append .ensures .0), omega (arith, c .append .ensures .1))
 
 returns-3 : tie.Need-returns-3
-returns-3 c = (rw (c .before .before .before .before .before .a2 .given .1) (extends-both (c .before .before .put2 .ensures .0) (c .put3 .ensures .0)), omega (arith, c .put3 .ensures .1, c .before .before .put2 .ensures .1))
+returns-3 c = (rw (c .before .before .before .before .before .a2 .given .1) (extends-both (c .before .before .append2 .ensures .0) (c .append3 .ensures .0)), omega (arith, c .append3 .ensures .1, c .before .before .append2 .ensures .1))
 
-pub put-added-spec : {M : Type 1} → statement M
-put-added-spec =
+pub append-added-spec : {M : Type 1} → statement M
+append-added-spec =
     tie.close
     (tie.spec
     enum-told
     enum-known-a
-    put-requires
+    append-requires
     enum-known-a-2
-    put-requires-2
-    put-requires-3
+    append-requires-2
+    append-requires-3
     returns
     returns-2
     returns-3)

@@ -5,8 +5,8 @@ use mathlib.Core.List.{List}
 use Prim.Native.Nat.{ℕ, _+_}
 use Rattle.facts.specs.Known.{stripesOf}
 use Rattle.facts.proofs.ArrayContents.{stripes-written}
-use Rattle.edge_stripes.proofs.put.Statement.{statement}
-use Rattle.edge_stripes.proofs.put.Tie as tie
+use Rattle.edge_stripes.proofs.append.Statement.{statement}
+use Rattle.edge_stripes.proofs.append.Tie as tie
 
 write-stripe-requires : tie.Need-write-stripe-requires
 write-stripe-requires c κs = search needs
@@ -21,5 +21,5 @@ returns c =
     let wrote = c .write-stripe .ensures in
     (record { same = ap (λ (l : List ℕ). stripesOf l (a .m + 1)) (wrote .0) ∙ stripes-written (a .stripes .now) (a .m) (a .s) (start .pre .0) (start .pre .1 .0); sized = wrote .1 }, refl)
 
-pub put-spec : {M : Type 1} → statement M
-put-spec = tie.close (tie.spec write-stripe-requires add-result returns)
+pub append-spec : {M : Type 1} → statement M
+append-spec = tie.close (tie.spec write-stripe-requires add-result returns)

@@ -3,14 +3,14 @@ use borrow.Author.Needs.{needs}
 use mathlib.Core.Path.{sym, _∙_}
 use native.Mathlib.Omega.{arith}
 use Rattle.edge_stripes.proofs.WrittenStripes.{extends-none, named-one, unnamed-one, shifted-one, shifted-away}
-use Rattle.edge_stripes.proofs.put_kept.Statement.{statement}
-use Rattle.edge_stripes.proofs.put_kept.Tie as tie
+use Rattle.edge_stripes.proofs.append_kept.Statement.{statement}
+use Rattle.edge_stripes.proofs.append_kept.Tie as tie
 
 enum-told : tie.Need-enum-told
 enum-told c = search needs
 
-put-requires : tie.Need-put-requires
-put-requires c κs = search needs
+append-requires : tie.Need-append-requires
+append-requires c κs = search needs
 
 enum-known-k : tie.Need-enum-known-k
 enum-known-k c = search needs
@@ -24,8 +24,8 @@ returns c =
     let a = start .args in
     (rw (c .before .before .before .k .given .1, named-one (a .s) _ (sym (c .before .names .ensures) ∙ c .if1 .taken)) (extends-none (a .stripes .now) (a .m) (start .pre .1 .1 .0)), omega arith)
 
-put-requires-2 : tie.Need-put-requires-2
-put-requires-2 c κs = search needs
+append-requires-2 : tie.Need-append-requires-2
+append-requires-2 c κs = search needs
 
 enum-known-k-2 : tie.Need-enum-known-k-2
 enum-known-k-2 c = search needs
@@ -36,21 +36,21 @@ shifted-requires c κs = (c .before .before .before .pre .0, rw (c .before .k2 .
 bound-in-limits-requires : tie.Need-bound-in-limits-requires
 bound-in-limits-requires c κs = search needs
 
-put-requires-3 : tie.Need-put-requires-3
-put-requires-3 c κs = search needs
+append-requires-3 : tie.Need-append-requires-3
+append-requires-3 c κs = search needs
 
 returns-2 : tie.Need-returns-2
 returns-2 c =
     let a = c .before .before .before .before .before .before .before .before .args in
-    (rw (c .before .before .before .before .before .before .k2 .given .1, shifted-one (a .s) _ _ _ (c .before .before .before .before .shifted .result) (c .before .before .before .before .shifted .ensures .0) (sym (c .before .before .before .bound-in-limits .ensures) ∙ c .before .before .if2 .taken)) (c .put3 .ensures .0), omega (arith, c .put3 .ensures .1))
+    (rw (c .before .before .before .before .before .before .k2 .given .1, shifted-one (a .s) _ _ _ (c .before .before .before .before .shifted .result) (c .before .before .before .before .shifted .ensures .0) (sym (c .before .before .before .bound-in-limits .ensures) ∙ c .before .before .if2 .taken)) (c .append3 .ensures .0), omega (arith, c .append3 .ensures .1))
 
 returns-3 : tie.Need-returns-3
-returns-3 c = (rw (c .before .before .enum-told .given .1) (c .put .ensures .0), omega (arith, c .put .ensures .1))
+returns-3 c = (rw (c .before .before .enum-told .given .1) (c .append .ensures .0), omega (arith, c .append .ensures .1))
 
 returns-4 : tie.Need-returns-4
 returns-4 c =
     let a = c .before .before .before .before .before .before .before .args in
-    (rw (c .before .before .before .before .before .k .given .1, unnamed-one (a .s) _ (sym (c .before .before .before .names .ensures) ∙ c .before .before .if1 .left)) (c .put2 .ensures .0), omega (arith, c .put2 .ensures .1))
+    (rw (c .before .before .before .before .before .k .given .1, unnamed-one (a .s) _ (sym (c .before .before .before .names .ensures) ∙ c .before .before .if1 .left)) (c .append2 .ensures .0), omega (arith, c .append2 .ensures .1))
 
 returns-5 : tie.Need-returns-5
 returns-5 c =
@@ -58,20 +58,20 @@ returns-5 c =
     let a = start .args in
     (rw (c .before .before .before .before .k2 .given .1, shifted-away (a .s) _ _ _ (c .before .before .shifted .result) (c .before .before .shifted .ensures .0) (sym (c .before .bound-in-limits .ensures) ∙ c .if2 .left)) (extends-none (a .stripes .now) (a .m) (start .pre .1 .1 .0)), omega arith)
 
-pub put-kept-spec : {M : Type 1} → statement M
-put-kept-spec =
+pub append-kept-spec : {M : Type 1} → statement M
+append-kept-spec =
     tie.close
     (tie.spec
     enum-told
-    put-requires
+    append-requires
     enum-known-k
     names-requires
     returns
-    put-requires-2
+    append-requires-2
     enum-known-k-2
     shifted-requires
     bound-in-limits-requires
-    put-requires-3
+    append-requires-3
     returns-2
     returns-3
     returns-4

@@ -6,8 +6,8 @@ use Rattle.model.specs.Limits.{greatestBound}
 use Rattle.facts.specs.Known.{stripesOf, Small}
 use Rattle.edge_stripes.specs.Plans.{keptOf, Extends}
 use Rattle.edge_stripes.proofs.WrittenStripes.{kept-none, kept-more, standing-small}
-use Rattle.edge_stripes.proofs.put_all.Statement.{statement}
-use Rattle.edge_stripes.proofs.put_all.Tie as tie
+use Rattle.edge_stripes.proofs.append_all.Statement.{statement}
+use Rattle.edge_stripes.proofs.append_all.Tie as tie
 
 abbrev Inv-loop : tie.InvT-loop
 Inv-loop k stripes n new-rows₀ m r₀ i₀ new-rows r i = (i ≤ n) × (r ≤ m + i) × Extends new-rows₀ m new-rows r (keptOf k (stripesOf stripes i))
@@ -26,8 +26,8 @@ stripe-at-requires c κs =
     let at = c .before .loop in
     (omega (arith, start .pre .1 .0 .few), start .pre .1 .0 .bytes (at .i) (omega arith))
 
-put-kept-requires : tie.Need-put-kept-requires Inv-loop μ-loop
-put-kept-requires c κs =
+append-kept-requires : tie.Need-append-kept-requires Inv-loop μ-loop
+append-kept-requires c κs =
     let start = c .before .before .before .before in
     let a = start .args in
     let at = c .before .before .before .loop in
@@ -44,7 +44,7 @@ loop-again : tie.Need-loop-again Inv-loop μ-loop
 loop-again c =
     let a = c .before .before .before .before .before .args in
     let at = c .before .before .before .before .loop in
-    (omega arith, omega (arith, c .put-kept .ensures .1), kept-more (a .k) (a .stripes .now) (at .i) (c .before .before .stripe-at .result) (c .before .before .stripe-at .ensures) (at .inv .2) (c .put-kept .ensures .0))
+    (omega arith, omega (arith, c .append-kept .ensures .1), kept-more (a .k) (a .stripes .now) (at .i) (c .before .before .stripe-at .result) (c .before .before .stripe-at .ensures) (at .inv .2) (c .append-kept .ensures .0))
 
 returns : tie.Need-returns Inv-loop μ-loop
 returns c =
@@ -54,15 +54,15 @@ returns c =
     let done : at .i ≡ a .n = omega arith in
     (subst (λ (j : ℕ). Extends (a .new-rows .now) (a .m) (at .new-rows) (at .r) (keptOf (a .k) (stripesOf (a .stripes .now) j))) done (at .inv .2), omega (arith, start .pre .1 .0 .few, start .pre .1 .1 .1))
 
-pub put-all-spec : {M : Type 1} → statement M
-put-all-spec =
+pub append-all-spec : {M : Type 1} → statement M
+append-all-spec =
     tie.close
     (tie.spec
     Inv-loop
     μ-loop
     loop-holds
     stripe-at-requires
-    put-kept-requires
+    append-kept-requires
     add-i
     loop-less
     loop-again
