@@ -20,7 +20,8 @@ both-requires c κs = search needs
 returns : tie.Need-returns
 returns c rs inside read =
     let a = c .before .before .before .before .args in
-    changed-twice rs (a .i) (a .o) overlap overlap read (c .before .before .before .overlap .ensures) (c .before .before .operand-after .ensures rs inside) (c .before .overlap2 .ensures) (c .both .ensures rs)
+    changed-twice rs (a .i) (a .o) overlap overlap read
+    (c .before .before .before .overlap .ensures) (c .before .before .operand-after .ensures rs inside) (c .before .overlap2 .ensures) (c .both .ensures rs)
 
 pub equal-ranges-spec : {M : Type 1} → statement M
 equal-ranges-spec =

@@ -25,7 +25,8 @@ both-requires c κs = search needs
 returns : tie.Need-returns
 returns c rs inside read =
     let a = c .before .before .before .before .before .args in
-    changed-twice rs (a .i) (a .o) (λ (q r : Range). below (q .hi) r) (λ (r q : Range). atLeast (r .lo + 1) q) read (c .before .before .before .before .below .ensures) (c .before .before .before .operand-after .ensures rs inside) (c .before .at-least .ensures) (c .both .ensures rs)
+    changed-twice rs (a .i) (a .o) (λ (q r : Range). below (q .hi) r) (λ (r q : Range). atLeast (r .lo + 1) q) read
+    (c .before .before .before .before .below .ensures) (c .before .before .before .operand-after .ensures rs inside) (c .before .at-least .ensures) (c .both .ensures rs)
 
 pub less-ranges-spec : {M : Type 1} → statement M
 less-ranges-spec =

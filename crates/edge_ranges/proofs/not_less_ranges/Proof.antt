@@ -21,7 +21,8 @@ both-requires c κs = search needs
 returns : tie.Need-returns
 returns c rs inside read =
     let a = c .before .before .before .before .args in
-    changed-twice rs (a .i) (a .o) (λ (q r : Range). atLeast (q .lo) r) (λ (r q : Range). atMost (r .hi) q) read (c .before .before .before .at-least .ensures) (c .before .before .operand-after .ensures rs inside) (c .before .at-most .ensures) (c .both .ensures rs)
+    changed-twice rs (a .i) (a .o) (λ (q r : Range). atLeast (q .lo) r) (λ (r q : Range). atMost (r .hi) q) read
+    (c .before .before .before .at-least .ensures) (c .before .before .operand-after .ensures rs inside) (c .before .at-most .ensures) (c .both .ensures rs)
 
 pub not-less-ranges-spec : {M : Type 1} → statement M
 not-less-ranges-spec =
