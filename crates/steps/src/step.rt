@@ -2,6 +2,7 @@
 use crate::values::operand_value;
 use crate::values::put;
 use model::limits::VARIABLES;
+use model::machine::Access;
 use model::machine::Instruction;
 use model::machine::Operand;
 use model::machine::Table;
@@ -95,18 +96,15 @@ fn load_to(
     trays: &[u8],
     results: &[u8],
     d: usize,
-    w: Width,
-    b: Table,
-    a: usize,
-    i: usize,
-    k: usize,
+    access: Access,
 ) -> usize
-    requires { ⌜ (point < greatestPoints) × (d < registers) × (i < variables) × (Machine.address a (valueAt (now values) i) k + bytesOf w ≤ length (tableOf b (lent (now trays) (now results)))) ⌝ }
-    ensures { λ r. ⌜ Written point d (readBytes (bytesOf w) (tableOf b (lent (now (trays .entry)) (now (results .entry)))) (Machine.address a (valueAt (now (values .entry)) i) k)) (now (values .entry)) r (now (values .exit)) ⌝ }
+    requires { ⌜ (point < greatestPoints) × (d < registers) × (access .i < variables) × (Machine.address (access .a) (valueAt (now values) (access .i)) (access .k) + bytesOf (access .w) ≤ length (tableOf (access .table) (lent (now trays) (now results)))) ⌝ }
+    ensures { λ r. ⌜ Written point d (readBytes (bytesOf (access .w)) (tableOf (access .table) (lent (now (trays .entry)) (now (results .entry)))) (Machine.address (access .a) (valueAt (now (values .entry)) (access .i)) (access .k))) (now (values .entry)) r (now (values .exit)) ⌝ }
 {
+    let Access { table, w, a, i, k } = access;
     let x = values[i];
     let at = address(a, x, k);
-    let z = load_from(b, trays, results, at, w);
+    let z = load_from(table, trays, results, at, w);
     put(values, d, z, point)
 }
 
@@ -177,7 +175,14 @@ pub fn step(
             a,
             i,
             k,
-        } => load_to(values, point, trays, results, d, w, table, a, i, k),
+        } => load_to(
+            values,
+            point,
+            trays,
+            results,
+            d,
+            Access { table, w, a, i, k },
+        ),
         Instruction::Stor { v, w, a, i, k } => store_from(values, point, results, v, w, a, i, k),
         Instruction::Jump { t } => t,
         Instruction::Bltu { i, t, o } => if_less(values, point, i, t, o),

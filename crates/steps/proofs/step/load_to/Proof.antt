@@ -1,3 +1,4 @@
+-- An address inside a table stays within 64 bits. Assumes nothing.
 use Rattle.steps.proofs.InstructionSteps.{table-short}
 use native.Mathlib.Omega.{arith}
 use borrow.Author.Needs.{needs}
@@ -11,7 +12,7 @@ element-copy-out-x : tie.Need-element-copy-out-x
 element-copy-out-x c = search needs
 
 address-requires : tie.Need-address-requires
-address-requires c κs = let short = table-short (c .before .before .before .args .b) (c .before .before .before .args .trays .now) (c .before .before .before .args .results .now) 18446744073709551616 (omega arith) (omega arith) in omega arith
+address-requires c κs = let short = table-short (c .before .before .before .args .access .table) (c .before .before .before .args .trays .now) (c .before .before .before .args .results .now) 18446744073709551616 (omega arith) (omega arith) in omega arith
 
 load-from-requires : tie.Need-load-from-requires
 load-from-requires c κs = search needs
