@@ -8,6 +8,7 @@ use model::limits::BLANK_VARIABLE;
 use model::limits::RESULTS_SIZE;
 use model::limits::TRAYS_SIZE;
 use model::limits::VARIABLES;
+use model::machine::Access;
 use model::machine::Instruction;
 use model::machine::Operand;
 use model::machine::Table;
@@ -61,21 +62,14 @@ fn divisor_safe<'a>(low: &'a [u64; VARIABLES], high: &'a [u64; VARIABLES], o: Op
 }
 
 // Whether the ranges alone keep the access inside its table.
-fn safe_by_ranges<'a>(
-    low: &'a [u64; VARIABLES],
-    high: &'a [u64; VARIABLES],
-    b: Table,
-    w: Width,
-    a: usize,
-    i: usize,
-    k: usize,
-) -> bool
+fn safe_by_ranges<'a>(low: &'a [u64; VARIABLES], high: &'a [u64; VARIABLES], access: Access) -> bool
     requires { ⌜ Ends (now low) (now high) ⌝ }
-    requires { ⌜ AccessLimited a i k ⌝ }
-    ensures { λ r. ⌜ r ≡ leb (a * hi (rangesOf (now (low .entry)) (now (high .entry))) i + k + bytesOf w) (lo (rangesOf (now (low .entry)) (now (high .entry))) (sizeVariable b)) ⌝ }
+    requires { ⌜ AccessLimited (access .a) (access .i) (access .k) ⌝ }
+    ensures { λ r. ⌜ r ≡ leb (access .a * hi (rangesOf (now (low .entry)) (now (high .entry))) (access .i) + access .k + bytesOf (access .w)) (lo (rangesOf (now (low .entry)) (now (high .entry))) (sizeVariable (access .table))) ⌝ }
 {
+    let Access { table, w, a, i, k } = access;
     let top = high[i];
-    let size = low[size_variable(b) as usize];
+    let size = low[size_variable(table) as usize];
     let n = bytes(w);
     a as u64 * top + k as u64 + n <= size
 }
@@ -86,17 +80,14 @@ fn safe_by_goal<'a>(
     high: &'a [u64; VARIABLES],
     stripes: &'a [u64; STRIPE_NUMBERS],
     m: usize,
-    b: Table,
-    w: Width,
-    a: usize,
-    i: usize,
-    k: usize,
+    access: Access,
 ) -> bool
     requires { ⌜ AtPoint (now low) (now high) (now stripes) m ⌝ }
-    requires { ⌜ AccessLimited a i k ⌝ }
-    ensures { λ r. ⌜ r ≡ follows (known (now (low .entry)) (now (high .entry)) (now (stripes .entry)) m) greatestLinks (stripe (sizeVariable b) a i blankVariable (k + bytesOf w) 0) ⌝ }
+    requires { ⌜ AccessLimited (access .a) (access .i) (access .k) ⌝ }
+    ensures { λ r. ⌜ r ≡ follows (known (now (low .entry)) (now (high .entry)) (now (stripes .entry)) m) greatestLinks (stripe (sizeVariable (access .table)) (access .a) (access .i) blankVariable (access .k + bytesOf (access .w)) 0) ⌝ }
 {
-    let x = size_variable(b);
+    let Access { table, w, a, i, k } = access;
+    let x = size_variable(table);
     let n = bytes(w);
     let g = Stripe {
         x,
@@ -115,20 +106,16 @@ fn access_safe<'a>(
     high: &'a [u64; VARIABLES],
     stripes: &'a [u64; STRIPE_NUMBERS],
     m: usize,
-    b: Table,
-    w: Width,
-    a: usize,
-    i: usize,
-    k: usize,
+    access: Access,
 ) -> bool
     requires { ⌜ AtPoint (now low) (now high) (now stripes) m ⌝ }
-    requires { ⌜ AccessLimited a i k ⌝ }
-    ensures { λ r. ⌜ r ≡ accessSafe (known (now (low .entry)) (now (high .entry)) (now (stripes .entry)) m) b w a i k ⌝ }
+    requires { ⌜ AccessLimited (access .a) (access .i) (access .k) ⌝ }
+    ensures { λ r. ⌜ r ≡ accessSafe (known (now (low .entry)) (now (high .entry)) (now (stripes .entry)) m) (access .table) (access .w) (access .a) (access .i) (access .k) ⌝ }
 {
-    if safe_by_ranges(low, high, b, w, a, i, k) {
+    if safe_by_ranges(low, high, access) {
         return true;
     }
-    safe_by_goal(low, high, stripes, m, b, w, a, i, k)
+    safe_by_goal(low, high, stripes, m, access)
 }
 
 // The judgement of a divisor.
@@ -157,17 +144,13 @@ fn access_judged<'a>(
     high: &'a [u64; VARIABLES],
     stripes: &'a [u64; STRIPE_NUMBERS],
     m: usize,
-    b: Table,
-    w: Width,
-    a: usize,
-    i: usize,
-    k: usize,
+    access: Access,
 ) -> Judgement
     requires { ⌜ AtPoint (now low) (now high) (now stripes) m ⌝ }
-    requires { ⌜ AccessLimited a i k ⌝ }
-    ensures { λ r. ⌜ r ≡ cond (accessSafe (known (now (low .entry)) (now (high .entry)) (now (stripes .entry)) m) b w a i k) Accepted (Refused (AccessMayLeave line)) ⌝ }
+    requires { ⌜ AccessLimited (access .a) (access .i) (access .k) ⌝ }
+    ensures { λ r. ⌜ r ≡ cond (accessSafe (known (now (low .entry)) (now (high .entry)) (now (stripes .entry)) m) (access .table) (access .w) (access .a) (access .i) (access .k)) Accepted (Refused (AccessMayLeave line)) ⌝ }
 {
-    if access_safe(low, high, stripes, m, b, w, a, i, k) {
+    if access_safe(low, high, stripes, m, access) {
         return Judgement::Accepted;
     }
     Judgement::Refused(Refusal::AccessMayLeave { line })
@@ -199,16 +182,13 @@ pub(crate) fn safety_judged<'a>(
             w,
             table,
             a,
-            i: v,
+            i,
             k,
-        } => access_judged(line, low, high, stripes, m, table, w, a, v, k),
-        Instruction::Stor {
-            v: _,
-            w,
-            a,
-            i: v,
-            k,
-        } => access_judged(line, low, high, stripes, m, Table::Results, w, a, v, k),
+        } => access_judged(line, low, high, stripes, m, Access { table, w, a, i, k }),
+        Instruction::Stor { v: _, w, a, i, k } => {
+            let table = Table::Results;
+            access_judged(line, low, high, stripes, m, Access { table, w, a, i, k })
+        }
         Instruction::Jump { t: _ } => Judgement::Accepted,
         Instruction::Bltu { i: _, t: _, o: _ } => Judgement::Accepted,
         Instruction::Bequ { i: _, t: _, o: _ } => Judgement::Accepted,

@@ -14,17 +14,17 @@ size-variable-requires c κs = search needs
 bytes-requires : tie.Need-bytes-requires
 bytes-requires c κs = search needs
 
-cast-t13 : tie.Need-cast-t13
-cast-t13 c = search needs
-
 cast-t14 : tie.Need-cast-t14
 cast-t14 c = search needs
 
 cast-t15 : tie.Need-cast-t15
 cast-t15 c = search needs
 
-add-t17 : tie.Need-add-t17
-add-t17 c = search needs
+cast-t16 : tie.Need-cast-t16
+cast-t16 c = search needs
+
+add-t18 : tie.Need-add-t18
+add-t18 c = search needs
 
 goal-follows-requires : tie.Need-goal-follows-requires
 goal-follows-requires c κs = (point-sized _ _ _ _ (c .before .before .pre .0), record { plus = omega arith; minus = omega arith })
@@ -34,7 +34,7 @@ returns c =
     let start = c .before .before .before in
     let a = start .args in
     c .goal-follows .ensures (known (a .low .now) (a .high .now) (a .stripes .now) (a .m)) (known-laid _ _ _ _ (ends-even _ _ (start .pre .0 .ends)))
-    ∙ access-goal (a .b) (a .w) (a .a) (a .i) (a .k) _ _ (c .before .before .size-variable .ensures .0) (c .before .bytes .ensures .0) (known (a .low .now) (a .high .now) (a .stripes .now) (a .m))
+    ∙ access-goal (a .access) _ _ (c .before .before .size-variable .ensures .0) (c .before .bytes .ensures .0) (known (a .low .now) (a .high .now) (a .stripes .now) (a .m))
 
 pub safe-by-goal-spec : {M : Type 1} → statement M
 safe-by-goal-spec =
@@ -42,9 +42,9 @@ safe-by-goal-spec =
     (tie.spec
     size-variable-requires
     bytes-requires
-    cast-t13
     cast-t14
     cast-t15
-    add-t17
+    cast-t16
+    add-t18
     goal-follows-requires
     returns)

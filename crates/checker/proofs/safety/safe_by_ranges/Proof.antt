@@ -31,21 +31,21 @@ bytes-requires : tie.Need-bytes-requires
 bytes-requires c κs = search needs
 
 mul-result : tie.Need-mul-result
-mul-result c = let start = c .before .before .before .before in omega (arith, mul-le-mul (start .pre .1 .scale) (start .pre .0 .highs .most (start .args .i) (start .pre .1 .variable)))
+mul-result c = let start = c .before .before .before .before in omega (arith, mul-le-mul (start .pre .1 .scale) (start .pre .0 .highs .most (start .args .access .i) (start .pre .1 .variable)))
 
 add-result : tie.Need-add-result
-add-result c = let start = c .before .before .before .before in omega (arith, mul-le-mul (start .pre .1 .scale) (start .pre .0 .highs .most (start .args .i) (start .pre .1 .variable)))
+add-result c = let start = c .before .before .before .before in omega (arith, mul-le-mul (start .pre .1 .scale) (start .pre .0 .highs .most (start .args .access .i) (start .pre .1 .variable)))
 
 add-result-2 : tie.Need-add-result-2
-add-result-2 c = let start = c .before .before .before .before in omega (arith, mul-le-mul (start .pre .1 .scale) (start .pre .0 .highs .most (start .args .i) (start .pre .1 .variable)))
+add-result-2 c = let start = c .before .before .before .before in omega (arith, mul-le-mul (start .pre .1 .scale) (start .pre .0 .highs .most (start .args .access .i) (start .pre .1 .variable)))
 
 returns : tie.Need-returns
 returns c =
     let start = c .before .before .before .before in
     let a = start .args in
     let even = ends-even _ _ (start .pre .0) in
-    rw (← low-held (a .low .now) (a .high .now) (c .before .before .size-variable .result) even, ← high-held (a .low .now) (a .high .now) (a .i) even)
-    (access-ranges (a .b) (a .w) (a .a) (a .i) (a .k) _ _ (c .before .before .size-variable .ensures .0) (c .bytes .ensures .0) (rangesOf (a .low .now) (a .high .now)))
+    rw (← low-held (a .low .now) (a .high .now) (c .before .before .size-variable .result) even, ← high-held (a .low .now) (a .high .now) (a .access .i) even)
+    (access-ranges (a .access) _ _ (c .before .before .size-variable .ensures .0) (c .bytes .ensures .0) (rangesOf (a .low .now) (a .high .now)))
 
 pub safe-by-ranges-spec : {M : Type 1} → statement M
 safe-by-ranges-spec =
