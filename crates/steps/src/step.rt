@@ -79,11 +79,12 @@ fn divide(values: &mut [u32; VARIABLES], point: usize, d: usize, i: usize, o: Op
 }
 
 // The number that an access to a table finds.
-fn load_from(b: Table, trays: &[u8], results: &[u8], at: usize, w: Width) -> u32
-    requires { ⌜ at + bytesOf w ≤ length (tableOf b (lent (now trays) (now results))) ⌝ }
-    ensures { λ r. ⌜ r ≡ readBytes (bytesOf w) (tableOf b (lent (now (trays .entry)) (now (results .entry)))) at ⌝ }
+fn load_from(trays: &[u8], results: &[u8], at: usize, access: Access) -> u32
+    requires { ⌜ at + bytesOf (access .w) ≤ length (tableOf (access .table) (lent (now trays) (now results))) ⌝ }
+    ensures { λ r. ⌜ r ≡ readBytes (bytesOf (access .w)) (tableOf (access .table) (lent (now (trays .entry)) (now (results .entry)))) at ⌝ }
 {
-    match b {
+    let Access { table, w, .. } = access;
+    match table {
         Table::Trays => load(trays, at, w),
         Table::Results => load(results, at, w),
     }
@@ -101,10 +102,10 @@ fn load_to(
     requires { ⌜ (point < greatestPoints) × (d < registers) × (access .i < variables) × (Machine.address (access .a) (valueAt (now values) (access .i)) (access .k) + bytesOf (access .w) ≤ length (tableOf (access .table) (lent (now trays) (now results)))) ⌝ }
     ensures { λ r. ⌜ Written point d (readBytes (bytesOf (access .w)) (tableOf (access .table) (lent (now (trays .entry)) (now (results .entry)))) (Machine.address (access .a) (valueAt (now (values .entry)) (access .i)) (access .k))) (now (values .entry)) r (now (values .exit)) ⌝ }
 {
-    let Access { table, w, a, i, k } = access;
+    let i = access.i;
     let x = values[i];
-    let at = address(a, x, k);
-    let z = load_from(table, trays, results, at, w);
+    let at = address(access.a, x, access.k);
+    let z = load_from(trays, results, at, access);
     put(values, d, z, point)
 }
 
