@@ -1,2 +1,3 @@
 pub mod FilledArrays
+pub mod WrittenValue
 pub mod InstructionSteps

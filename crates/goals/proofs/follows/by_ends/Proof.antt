@@ -22,7 +22,7 @@ add-result-2 : tie.Need-add-result-2
 add-result-2 c = search needs
 
 returns : tie.Need-returns
-returns c = cc
+returns c = rw (c .scaled .ensures .0, c .before .end-of2 .ensures .0, c .before .before .end-of .ensures .0)
 
 pub by-ends-spec : {M : Type 1} → statement M
 by-ends-spec =

@@ -2,6 +2,9 @@
 use Rattle.steps.proofs.InstructionSteps.{table-short}
 use native.Mathlib.Omega.{arith}
 use borrow.Author.Needs.{needs}
+use mathlib.Core.Path.{ap, _∙_}
+use Rattle.model.specs.Machine.{readBytes}
+use Rattle.steps.proofs.WrittenValue.{written}
 use Rattle.steps.proofs.step.load_to.Statement.{statement}
 use Rattle.steps.proofs.step.load_to.Tie as tie
 
@@ -21,7 +24,7 @@ put-requires : tie.Need-put-requires
 put-requires c κs = search needs
 
 returns : tie.Need-returns
-returns c = record { point = c .put .ensures .point; values = cc }
+returns c = written (c .put .ensures) (c .before .before .load-from .ensures ∙ ap (readBytes _ _) (c .before .before .before .address .ensures))
 
 pub load-to-spec : {M : Type 1} → statement M
 load-to-spec =

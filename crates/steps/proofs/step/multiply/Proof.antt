@@ -1,4 +1,8 @@
+-- What is written is the operation of the machine. Assumes nothing.
 use borrow.Author.Needs.{needs}
+use mathlib.Core.Path.{ap, _∙_}
+use Rattle.model.specs.Machine.{product}
+use Rattle.steps.proofs.WrittenValue.{written}
 use Rattle.steps.proofs.step.multiply.Statement.{statement}
 use Rattle.steps.proofs.step.multiply.Tie as tie
 
@@ -18,7 +22,7 @@ put-requires : tie.Need-put-requires
 put-requires c κs = search needs
 
 returns : tie.Need-returns
-returns c = record { point = c .put .ensures .point; values = cc }
+returns c = written (c .put .ensures) (c .before .before .product .ensures ∙ ap (product _) (c .before .before .before .operand-value .ensures))
 
 pub multiply-spec : {M : Type 1} → statement M
 multiply-spec =

@@ -1,4 +1,8 @@
-use mathlib.Core.Path.{refl}
+-- What is stored are the low bytes at the address of the machine. Assumes nothing.
+use mathlib.Core.Path.{refl, ap, _∙_}
+use Prim.Native.Nat.{ℕ}
+use Rattle.model.specs.Facts.{valueAt}
+use Rattle.model.specs.Machine.{bytesOf, writeBytes}
 use borrow.Author.Needs.{needs}
 use Rattle.steps.proofs.step.store_from.Statement.{statement}
 use Rattle.steps.proofs.step.store_from.Tie as tie
@@ -28,7 +32,9 @@ same-length : tie.Need-same-length
 same-length c = search needs
 
 returns : tie.Need-returns
-returns c = (refl, cc)
+returns c =
+    let a = c .before .before .before .before .before .before .before .before .args in
+    (refl, c .before .before .store .ensures ∙ ap (λ (at : ℕ). writeBytes (bytesOf (a .w)) (a .results .now) at (valueAt (a .values .now) (a .v))) (c .before .before .before .before .before .address .ensures))
 
 pub store-from-spec : {M : Type 1} → statement M
 store-from-spec =
