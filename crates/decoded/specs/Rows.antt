@@ -1,7 +1,8 @@
 -- Rows of eight numbers in one list: a kind, then the numbers of F1 to F6, of which F6 takes two.
 use Prim.Native.Nat.{ℕ, _+_, _*_}
-use mathlib.Core.List.{List}
-use lib.ListN.{getD, set}
+use mathlib.Core.List.{List, [], _∷_}
+use lib.ListN.{getD}
+use Rattle.model.specs.Lists.{writtenFrom}
 use Rattle.decoded.specs.declared.rows.Row.{Row}
 
 -- a row of these numbers
@@ -16,5 +17,4 @@ rowAt l k =
 
 -- the list with the k-th row replaced
 unfoldable pub withRow : List ℕ → ℕ → Row → List ℕ
-withRow l k r =
-    set (set (set (set (set (set (set (set l (k * 8) (r .kind)) (k * 8 + 1) (r .first)) (k * 8 + 2) (r .second)) (k * 8 + 3) (r .third)) (k * 8 + 4) (r .fourth)) (k * 8 + 5) (r .fifth)) (k * 8 + 6) (r .sixth)) (k * 8 + 7) (r .seventh)
+withRow l k r = writtenFrom l (k * 8) (r .kind ∷ r .first ∷ r .second ∷ r .third ∷ r .fourth ∷ r .fifth ∷ r .sixth ∷ r .seventh ∷ [])

@@ -12,7 +12,7 @@ use Rattle.model.specs.declared.claims.Stripe.{Stripe}
 use Rattle.model.specs.Facts.{between, rangeOf, lo, hi}
 use Rattle.facts.specs.Sizes.{edgeStripes}
 use Rattle.facts.specs.Search.{someBelow}
-use Rattle.facts.specs.StripeRows.{SizedRows, stripeAt, withRow, HasRows}
+use Rattle.facts.specs.StripeRows.{SizedRows, stripeAt, withStripe, HasRows}
 use Rattle.facts.proofs.Search.{some-last}
 use Rattle.facts.proofs.WrittenArrays.{stripe-there, stripe-other}
 use Rattle.model.specs.Lists.{some}
@@ -69,10 +69,10 @@ unfolding stripesOf
 stripes-more rows n = rw (add-one n) refl
 
 -- a row written after the first n
-pub stripes-written : (rows : List ℕ) (n : ℕ) (s : Stripe) → SizedRows rows → n < edgeStripes → stripesOf (withRow rows n s) (n + 1) ≡ stripesOf rows n ++ (s ∷ [])
+pub stripes-written : (rows : List ℕ) (n : ℕ) (s : Stripe) → SizedRows rows → n < edgeStripes → stripesOf (withStripe rows n s) (n + 1) ≡ stripesOf rows n ++ (s ∷ [])
 stripes-written rows n s sized inside =
-    stripes-more (withRow rows n s) n
-    ∙ ap (λ (ss : List Stripe). ss ++ (stripeAt (withRow rows n s) n ∷ [])) (stripes-same (withRow rows n s) rows n (λ i l. stripe-other rows n s i (λ e. omega arith)))
+    stripes-more (withStripe rows n s) n
+    ∙ ap (λ (ss : List Stripe). ss ++ (stripeAt (withStripe rows n s) n ∷ [])) (stripes-same (withStripe rows n s) rows n (λ i l. stripe-other rows n s i (λ e. omega arith)))
     ∙ ap (λ (t : Stripe). stripesOf rows n ++ (t ∷ [])) (stripe-there rows n s sized inside)
 
 -- no test tells rows and stripes apart

@@ -15,7 +15,7 @@ use Rattle.model.specs.Facts.{registerRange, sizeRange, unclaimedRange, lo, hi,
 use Rattle.model.proofs.Tests.{cond-cases, every-below}
 use Rattle.model.specs.Limited.{StripeLimited}
 use Rattle.facts.specs.Ends.{SizedEnds}
-use Rattle.facts.specs.StripeRows.{SizedRows, stripeAt, withRow}
+use Rattle.facts.specs.StripeRows.{SizedRows, stripeAt, withStripe}
 use Rattle.facts.specs.Laid.{Laid, Sized}
 use Rattle.facts.proofs.WrittenArrays.{set-numbers, row-numbers, stripe-there, stripe-other}
 use Rattle.facts.specs.Known.{rangesOf, known, Ends, Bytes, Standing, AtPoint, AlongEdge}
@@ -44,14 +44,14 @@ module _ (low high stripes : List ℕ) (n : ℕ) (at : AtPoint low high stripes 
     byte : Bytes s
     byte = record { x = omega (arith, limits .x); a = omega (arith, limits .scale); y = omega (arith, limits .y); z = omega (arith, limits .z) }
 
-    bytes : (i : ℕ) → i < n + 1 → Bytes (stripeAt (withRow stripes n s) i)
+    bytes : (i : ℕ) → i < n + 1 → Bytes (stripeAt (withStripe stripes n s) i)
     bytes i h = go (ℕ-discrete i n)
       where
-        go : Dec (i ≡ n) → Bytes (stripeAt (withRow stripes n s) i)
-        go (yes e) = subst Bytes (sym (ap (stripeAt (withRow stripes n s)) e ∙ stripe-there stripes n s (standing-sized stripes n (at .stripes)) (omega arith))) byte
+        go : Dec (i ≡ n) → Bytes (stripeAt (withStripe stripes n s) i)
+        go (yes e) = subst Bytes (sym (ap (stripeAt (withStripe stripes n s)) e ∙ stripe-there stripes n s (standing-sized stripes n (at .stripes)) (omega arith))) byte
         go (no d) = subst Bytes (sym (stripe-other stripes n s i d)) (at .stripes .bytes i (omega arith))
 
-    pub point-row : AtPoint low high (withRow stripes n s) (n + 1)
+    pub point-row : AtPoint low high (withStripe stripes n s) (n + 1)
     point-row = record {
       ends = at .ends;
       stripes = record {

@@ -2,10 +2,10 @@
 use Prim.Native.Nat.{ℕ, _+_, _*_}
 use mathlib.Core.Path.{_≡_}
 use mathlib.Core.Bool.{Bool}
-use mathlib.Core.List.{List}
-use lib.ListN.{getD, set}
+use mathlib.Core.List.{List, [], _∷_}
+use lib.ListN.{getD}
 use Rattle.model.specs.declared.claims.Stripe.{Stripe}
-use Rattle.model.specs.Lists.{some}
+use Rattle.model.specs.Lists.{some, writtenFrom}
 use Rattle.facts.specs.Sizes.{greatestPart, edgeStripes, Numbers}
 use Rattle.facts.specs.Search.{someBelow}
 
@@ -25,8 +25,8 @@ stripeAt l i = record {
 }
 
 -- the list with the i-th row replaced
-abbrev pub withRow : List ℕ → ℕ → Stripe → List ℕ
-withRow l i s = set (set (set (set (set (set l (i * 6) (s .x)) (i * 6 + 1) (s .a)) (i * 6 + 2) (s .y)) (i * 6 + 3) (s .z)) (i * 6 + 4) (s .plus)) (i * 6 + 5) (s .minus)
+abbrev pub withStripe : List ℕ → ℕ → Stripe → List ℕ
+withStripe l i s = writtenFrom l (i * 6) (s .x ∷ s .a ∷ s .y ∷ s .z ∷ s .plus ∷ s .minus ∷ [])
 
 -- the first n rows hold the stripes: no test tells them apart
 abbrev pub HasRows : List ℕ → ℕ → List Stripe → Type 0

@@ -4,7 +4,7 @@ use model::claims::Stripe;
 ghost use mathlib.Core.Path.{_≡_};
 ghost use Prim.Native.Nat.{_<_};
 ghost use Rattle.facts.specs.Sizes.{edgeStripes, Small};
-ghost use Rattle.facts.specs.StripeRows.{SizedRows, withRow};
+ghost use Rattle.facts.specs.StripeRows.{SizedRows, withStripe};
 
 // A byte as a number of 64 bits.
 pub fn wide(v: u8) -> u64
@@ -17,7 +17,7 @@ pub fn wide(v: u8) -> u64
 pub fn write_stripe(rows: &mut [u64; STRIPE_NUMBERS], i: usize, s: Stripe)
     requires { ⌜ SizedRows (now rows) ⌝ }
     requires { ⌜ (i < edgeStripes) × Small s ⌝ }
-    ensures { λ r. ⌜ (now (rows .exit) ≡ withRow (now (rows .entry)) i s) × SizedRows (now (rows .exit)) ⌝ }
+    ensures { λ r. ⌜ (now (rows .exit) ≡ withStripe (now (rows .entry)) i s) × SizedRows (now (rows .exit)) ⌝ }
 {
     let x = wide(s.x);
     let a = wide(s.a);

@@ -3,9 +3,10 @@
 use Prim.Native.Nat.{ℕ, _+_, _*_, _≤_}
 use mathlib.Core.Path.{_≡_}
 use mathlib.Core.Bool.{Bool, true, _&&_, _||_}
-use mathlib.Core.List.{List}
-use lib.ListN.{getD, set}
+use mathlib.Core.List.{List, [], _∷_}
+use lib.ListN.{getD}
 use Rattle.model.specs.declared.claims.Stripe.{Stripe}
+use Rattle.model.specs.Lists.{writtenFrom}
 use Rattle.model.specs.Transfer.{apart}
 use Rattle.model.specs.Follows.{isLink}
 use Rattle.facts.specs.Sizes.{greatestPart, edgeStripes, Numbers}
@@ -22,7 +23,7 @@ linkAt l i = apart (getD l (i * 4 + 1) 0) (getD l (i * 4) 0) (getD l (i * 4 + 2)
 
 -- the list with the i-th link replaced
 abbrev pub withLink : List ℕ → ℕ → ℕ → ℕ → ℕ → ℕ → List ℕ
-withLink l i v u plus minus = set (set (set (set l (i * 4) v) (i * 4 + 1) u) (i * 4 + 2) plus) (i * 4 + 3) minus
+withLink l i v u plus minus = writtenFrom l (i * 4) (v ∷ u ∷ plus ∷ minus ∷ [])
 
 -- t says of the same variables at least what s says
 pub record Better (t s : Stripe) : Type 0 where

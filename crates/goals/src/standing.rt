@@ -6,7 +6,7 @@ ghost use Prim.Native.Nat.{_≤_, _<_};
 ghost use Rattle.model.specs.Follows;
 ghost use Rattle.model.specs.Transfer.{stripe};
 ghost use Rattle.facts.specs.Sizes.{edgeStripes, Small, Room};
-ghost use Rattle.facts.specs.StripeRows.{SizedRows, stripeAt, withRow};
+ghost use Rattle.facts.specs.StripeRows.{SizedRows, stripeAt, withStripe};
 ghost use Rattle.goals.specs.Goal;
 
 // Whether the i-th row stands for the goal.

@@ -6,6 +6,7 @@ pub mod Stripes
 pub mod Values
 pub mod Transfer
 pub mod Lists
+pub mod WrittenNumbers
 pub mod Limited
 pub mod Reading
 pub mod ClaimPart

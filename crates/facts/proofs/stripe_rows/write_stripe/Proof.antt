@@ -1,7 +1,7 @@
 -- The six numbers are those of the stripe. Assumes nothing.
 use native.Mathlib.Omega.{arith}
 use mathlib.Core.Path.{refl}
-use Rattle.facts.proofs.WrittenArrays.{row-sized}
+use Rattle.facts.proofs.WrittenArrays.{row-sized, sized-as}
 use borrow.Author.Needs.{needs}
 use Rattle.facts.proofs.stripe_rows.write_stripe.Statement.{statement}
 use Rattle.facts.proofs.stripe_rows.write_stripe.Tie as tie
@@ -79,11 +79,9 @@ returns c =
     let x = c .before .before .before .wide .ensures in
     let b = c .before .before .wide2 .ensures in
     let y = c .before .wide3 .ensures in
-    let z = c .wide4 .ensures in (
-      rw (x .0, b .0, y .0, z .0) refl,
-      rw (x .0, b .0, y .0, z .0)
-          (row-sized (a .rows .now) (a .i) (a .s) (omega (arith, x .0, x .1)) (omega (arith, b .0, b .1)) (omega (arith, y .0, y .1)) (omega (arith, z .0, z .1)) (start .pre .1 .1) (start .pre .0)),
-    )
+    let z = c .wide4 .ensures in
+    sized-as (rw (x .0, b .0, y .0, z .0) refl)
+    (row-sized (a .rows .now) (a .i) (a .s) (omega (arith, x .0, x .1)) (omega (arith, b .0, b .1)) (omega (arith, y .0, y .1)) (omega (arith, z .0, z .1)) (start .pre .1 .1) (start .pre .0))
 
 pub write-stripe-spec : {M : Type 1} → statement M
 write-stripe-spec =
