@@ -19,9 +19,9 @@ use Rattle.model.specs.declared.answers.Judgement.the-variants.{Accepted, Refus
 use Rattle.model.specs.declared.answers.Report.the-variants.{Stopped, Paused, Refused as refusedRun}
 use Rattle.model.specs.declared.answers.Outcome.{Outcome}
 use Rattle.model.specs.Limits.{registers}
-use Rattle.model.specs.Listing.{Point, pointAt, listingOf, pointsOf}
+use Rattle.model.specs.Listing.{Point, pointAt, Listing, readAs, refusedListing, listingOf, pointsOf}
 use Rattle.model.specs.Machine.{Tables, lent, tableOf, sizesOf, Config, configOf, valuesFrom, Step, next, stopped, errorState, stepOf, stepAt, at, settled}
-use Rattle.model.specs.Check.{pointsJudged, listingJudged}
+use Rattle.model.specs.Check.{listingJudged}
 use Rattle.model.specs.Instructions.{isStop}
 use Rattle.model.specs.Run.{meetsClaims, stateJudged, runJudged, Progress, progress, advanced, runFor, Ran, finished, ranFrom, run}
 use Rattle.model.proofs.Lists.{all-at}
@@ -30,25 +30,16 @@ use Rattle.model.proofs.OneStep.{Good, StepGood}
 use Rattle.model.proofs.Steps.{Passes, each-accepted, step-kept}
 use Rattle.model.proofs.Runs.{Made, made}
 use Rattle.model.proofs.Safety.{good-start}
-use Rattle.reader.specs.declared.listing.Listing.{Listing}
-use Rattle.reader.specs.Points.{pointsIn}
-use Rattle.checker.specs.Judged.{Held, Judged}
 use Rattle.steps.specs.Stepped.{config, ValuesOver, Steppable, Stepped}
 use Rattle.runner.specs.Runs.{state, outcome, RunByValue}
 
--- a listing that the code judged to pass
-pub passed : (s : List ℕ) (l : Listing) (rows places : List ℕ) → Judged s l rows places → l .judgement ≡ Accepted → Held s rows places (l .count) × (listingJudged (listingOf s) ≡ Accepted)
-passed s l rows places h e = (h .held e, sym (h .judgement) ∙ e)
-
-pub passes : (s rows places : List ℕ) (count : ℕ) → Held s rows places count → listingJudged (listingOf s) ≡ Accepted → Passes (pointsOf (listingOf s))
-passes s rows places count h e =
-    let ps = pointsIn rows places count in
-    let j : pointsJudged ps (length ps) ≡ Accepted = sym (ap listingJudged (h .points)) ∙ e in
-    subst Passes (sym (ap pointsOf (h .points))) (record { formed = well-formed s ps (h .points); owed = each-accepted ps (length ps) j })
-
--- a state is judged over the points that are held
-pub state-held : (s rows places : List ℕ) (count : ℕ) → Held s rows places count → (x : State) (sizes : List ℕ) → stateJudged (pointsIn rows places count) x sizes ≡ stateJudged (pointsOf (listingOf s)) x sizes
-state-held s rows places count h x sizes = ap (λ (l : List Point). stateJudged l x sizes) (sym (ap pointsOf (h .points)))
+-- what is known of the points of a listing that passes
+pub passes : (s : List ℕ) → listingJudged (listingOf s) ≡ Accepted → Passes (pointsOf (listingOf s))
+passes s accepted = go (listingOf s) refl accepted
+  where
+    go : (x : Listing) → listingOf s ≡ x → listingJudged x ≡ Accepted → Passes (pointsOf (listingOf s))
+    go (refusedListing r) q j = let z : _≡_ {A = ℕ} 0 1 = cc in absurd (omega arith)
+    go (readAs ps) q j = rw q (record { formed = well-formed s ps q; owed = each-accepted ps (length ps) j })
 
 at-same : {c d : Config} → at c ≡ at d → c ≡ d
 at-same e = cc

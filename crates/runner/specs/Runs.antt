@@ -7,10 +7,10 @@ use Rattle.model.specs.declared.machine.State.{State}
 use Rattle.model.specs.declared.answers.Report.{Report}
 use Rattle.model.specs.declared.answers.Outcome.{Outcome}
 use Rattle.model.specs.Limits.{lineBytes, greatestPoints}
+use Rattle.model.specs.Listing.{Point, pointAt}
 use Rattle.model.specs.Run.{Ran}
 use Rattle.decoded.specs.Rows.{rowAt}
 use Rattle.decoded.specs.Decoded.{instructionFrom}
-use Rattle.reader.specs.Points.{pointIn}
 use Rattle.runner.specs.declared.Ending.{Ending}
 
 -- a state from its parts
@@ -21,10 +21,11 @@ state p rs = record { point = p; registers = rs }
 abbrev pub outcome : Report → State → ℕ → Outcome
 outcome r s n = record { report = r; state = s; steps = n }
 
--- the first n rows of the code hold the instructions of the first n points
-pub record Gathered (rows at : List ℕ) (n : ℕ) (code : List ℕ) : Type 0 where
-  pub long : n * 8 ≤ length code
-  pub each : (p : ℕ) → p < n → instructionFrom (rowAt code p) ≡ pointIn rows at p .instruction
+-- there are not too many points, and a row of the code for each holds its instruction
+pub record Coded (ps : List Point) (code : List ℕ) : Type 0 where
+  pub few : length ps ≤ greatestPoints
+  pub long : length ps * 8 ≤ length code
+  pub each : (p : ℕ) → p < length ps → instructionFrom (rowAt code p) ≡ pointAt ps p .instruction
 
 -- the code has room for the points that a listing of so many bytes can have
 abbrev pub CodeRoom : ℕ → List ℕ → Type 0

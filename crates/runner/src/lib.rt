@@ -47,8 +47,7 @@ ghost use Rattle.model.specs.Machine.{lent, sizesOf};
 ghost use Rattle.model.specs.Run as Run;
 ghost use Rattle.model.specs.Run.{sizeFits};
 ghost use Rattle.reader.specs.Points.{Placed, AllPlaced, Holds, pointIn, pointsIn};
-ghost use Rattle.checker.specs.Judged.{Held};
-ghost use Rattle.runner.specs.Runs.{state, outcome, Gathered, CodeRoom, RunByValue};
+ghost use Rattle.runner.specs.Runs.{state, outcome, Coded, CodeRoom, RunByValue};
 
 // The code of the longest listing: a row for each point.
 const ALL_CODE: usize = GREATEST_POINTS * ROW_NUMBERS;
@@ -134,7 +133,7 @@ fn ended(report: Report, point: usize, values: [u32; VARIABLES], steps: u32) -> 
 fn gather<'a>(rows: &'a [u64], at: &'a [u16], n: usize, code: &mut [u64])
     requires { ⌜ AllPlaced (now rows) (now at) n ⌝ }
     requires { ⌜ n * 8 ≤ length (now code) ⌝ }
-    ensures { λ _. ⌜ Gathered (now (rows .entry)) (now (at .entry)) n (now (code .exit)) ⌝ }
+    ensures { λ _. ⌜ Coded (pointsIn (now (rows .entry)) (now (at .entry)) n) (now (code .exit)) ⌝ }
 {
     let mut p = 0;
     while p < n {
@@ -144,26 +143,21 @@ fn gather<'a>(rows: &'a [u64], at: &'a [u16], n: usize, code: &mut [u64])
     }
 }
 
-// The run from a state that nothing turns back, with code that is lent for the rows of the points.
-fn run_from<'a>(
-    listing: &'a [u8],
-    rows: &'a [u64],
-    at: &'a [u16],
-    count: usize,
-    code: &mut [u64],
+// The run of a listing that passes, by the code of its points, from a state that nothing turns back.
+fn run_code(
+    listing: &[u8],
+    code: &[u64],
     start: usize,
     registers: [u32; REGISTERS],
     trays: &[u8],
     results: &mut [u8],
     budget: u32,
 ) -> Outcome
-    requires { ⌜ Held (now listing) (now rows) (now at) count ⌝ }
     requires { ⌜ listingJudged (listingOf (now listing)) ≡ Accepted ⌝ }
+    requires { ⌜ Coded (pointsOf (listingOf (now listing))) (now code) ⌝ }
     requires { ⌜ Run.stateJudged (pointsOf (listingOf (now listing))) (state start registers) (sizesOf (lent (now trays) (now results))) ≡ Accepted ⌝ }
-    requires { ⌜ count * 8 ≤ length (now code) ⌝ }
     ensures { λ r. ⌜ RunByValue (Run.run (now (listing .entry)) (state start registers) (lent (now (trays .entry)) (now (results .entry))) budget) r (now (results .exit)) ⌝ }
 {
-    gather(rows, at, count, code);
     let sizes = [trays.len(), results.len()];
     let mut values = values_of(registers, words(sizes));
     let mut point = start;
@@ -181,42 +175,6 @@ fn run_from<'a>(
     }
 }
 
-// The run of a listing that passes, from the parts of a state.
-fn run_passed<'a>(
-    listing: &'a [u8],
-    rows: &'a [u64],
-    at: &'a [u16],
-    count: usize,
-    code: &mut [u64],
-    start: usize,
-    registers: [u32; REGISTERS],
-    trays: &[u8],
-    results: &mut [u8],
-    budget: u32,
-) -> Outcome
-    requires { ⌜ Held (now listing) (now rows) (now at) count ⌝ }
-    requires { ⌜ listingJudged (listingOf (now listing)) ≡ Accepted ⌝ }
-    requires { ⌜ count * 8 ≤ length (now code) ⌝ }
-    ensures { λ r. ⌜ RunByValue (Run.run (now (listing .entry)) (state start registers) (lent (now (trays .entry)) (now (results .entry))) budget) r (now (results .exit)) ⌝ }
-{
-    let sizes = [trays.len(), results.len()];
-    if let Judgement::Refused(r) = state_judged(rows, at, count, start, registers, sizes) {
-        return turned_back(start, registers, r);
-    }
-    run_from(
-        listing,
-        rows,
-        at,
-        count,
-        code,
-        start,
-        registers,
-        trays,
-        results,
-        budget,
-    )
-}
-
 // A run that is turned back hands back the state as it was.
 fn turned_back(point: usize, registers: [u32; REGISTERS], r: Refusal) -> Outcome
     ensures { λ o. ⌜ o ≡ outcome (refusedRun r) (state point registers) 0 ⌝ }
@@ -225,6 +183,28 @@ fn turned_back(point: usize, registers: [u32; REGISTERS], r: Refusal) -> Outcome
         report: Report::Refused(r),
         state: State { point, registers },
         steps: 0,
+    }
+}
+
+// The run of a listing that passes, by the code of its points, from a state that is judged.
+fn run_judged(
+    j: Judgement,
+    listing: &[u8],
+    code: &[u64],
+    start: usize,
+    registers: [u32; REGISTERS],
+    trays: &[u8],
+    results: &mut [u8],
+    budget: u32,
+) -> Outcome
+    requires { ⌜ listingJudged (listingOf (now listing)) ≡ Accepted ⌝ }
+    requires { ⌜ Coded (pointsOf (listingOf (now listing))) (now code) ⌝ }
+    requires { ⌜ j ≡ Run.stateJudged (pointsOf (listingOf (now listing))) (state start registers) (sizesOf (lent (now trays) (now results))) ⌝ }
+    ensures { λ r. ⌜ RunByValue (Run.run (now (listing .entry)) (state start registers) (lent (now (trays .entry)) (now (results .entry))) budget) r (now (results .exit)) ⌝ }
+{
+    match j {
+        Judgement::Refused(r) => turned_back(start, registers, r),
+        Judgement::Accepted => run_code(listing, code, start, registers, trays, results, budget),
     }
 }
 
@@ -250,11 +230,12 @@ fn run_in(
         Judgement::Refused(r) => turned_back(start, registers, r),
         Judgement::Accepted => {
             let count = l.count;
-            run_passed(
+            let sizes = [trays.len(), results.len()];
+            let judged = state_judged(rows, &at, count, start, registers, sizes);
+            gather(rows, &at, count, code);
+            run_judged(
+                judged,
                 listing,
-                rows,
-                &at,
-                count,
                 code,
                 start,
                 registers,

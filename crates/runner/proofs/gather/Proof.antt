@@ -1,17 +1,19 @@
 -- After p points the code holds their rows. Assumes nothing.
-use Prim.Native.Nat.{_+_, _*_, _-_, _≤_}
+use Prim.Native.Nat.{_+_, _*_, _-_, _≤_, _<_}
 use mathlib.Core.Path.{_≡_, refl, ap, _∙_}
 use native.Mathlib.Omega.{arith}
 use lib.ListN.{length}
+use Rattle.model.specs.Limits.{greatestPoints}
 use Rattle.decoded.specs.Decoded.{instructionFrom}
 use Rattle.decoded.proofs.WrittenRows.{row-long}
-use Rattle.runner.specs.Runs.{Gathered}
+use Rattle.reader.specs.Points.{pointsIn}
+use Rattle.runner.specs.Runs.{Coded}
 use Rattle.runner.proofs.GatheredRows.{none-gathered, one-gathered}
 use Rattle.runner.proofs.gather.Statement.{statement}
 use Rattle.runner.proofs.gather.Tie as tie
 
 abbrev Inv-loop : tie.InvT-loop
-Inv-loop rows at n code₀ p₀ code p = (p ≤ n) × (length code ≡ length code₀) × Gathered rows at p code
+Inv-loop rows at n code₀ p₀ code p = (p ≤ n) × (length code ≡ length code₀) × Coded (pointsIn rows at p) code
 
 abbrev μ-loop : tie.MeasureT-loop
 μ-loop rows at n code₀ p₀ code p = n - p
@@ -37,8 +39,10 @@ loop-again c =
     let long = l .inv .1 in
     let t = c .before .before .before .before .before .loop-test .taken in
     let all = c .before .before .before .before .before .before .before .before .before .before .pre .1 in
+    let most = c .before .before .before .before .before .before .before .before .before .before .pre .0 .few in
+    let few : l .p < greatestPoints = omega arith in
     let room : l .p * 8 + 8 ≤ length (l .code) = omega arith in
-    rw (c .before .before .write-row .ensures) (omega arith, row-long (l .code) (l .p) _ ∙ long, one-gathered _ _ _ _ _ room (ap instructionFrom (c .before .before .before .before .instruction-row .ensures)) (l .inv .2))
+    rw (c .before .before .write-row .ensures) (omega arith, row-long (l .code) (l .p) _ ∙ long, one-gathered _ _ _ _ _ few room (ap instructionFrom (c .before .before .before .before .instruction-row .ensures)) (l .inv .2))
 
 same-length : tie.Need-same-length Inv-loop μ-loop
 same-length c = c .before .loop .inv .1

@@ -1,9 +1,11 @@
-use mathlib.Core.Path.{sym, _∙_}
-use borrow.Author.Needs.{needs}
+-- Where the listing passes, the points that are held are the listing's. Assumes nothing.
+use mathlib.Core.Path.{sym, ap, _∙_}
+use Rattle.model.specs.Listing.{pointsOf}
 use Rattle.model.specs.Machine.{lent}
 use Rattle.runner.specs.Runs.{state}
-use Rattle.runner.proofs.RunLoop.{passed, listing-refused}
+use Rattle.runner.proofs.RunLoop.{listing-refused}
 use Rattle.runner.proofs.PointCount.{code-room}
+use borrow.Author.Needs.{needs}
 use Rattle.runner.proofs.run_in.Statement.{statement}
 use Rattle.runner.proofs.run_in.Tie as tie
 
@@ -11,7 +13,7 @@ slice-aggregate-judged-listing : tie.Need-slice-aggregate-judged-listing
 slice-aggregate-judged-listing c = search needs
 
 judged-listing-requires : tie.Need-judged-listing-requires
-judged-listing-requires c κs = record { lines = c .before .before .before .before .before .before .before .pre .0; places = search needs }
+judged-listing-requires c κs = search needs
 
 enum-known-j : tie.Need-enum-known-j
 enum-known-j c = search needs
@@ -22,13 +24,27 @@ turned-back-requires c κs = search needs
 enum-told : tie.Need-enum-told
 enum-told c = search needs
 
-slice-aggregate-run-passed : tie.Need-slice-aggregate-run-passed
-slice-aggregate-run-passed c = search needs
+slice-aggregate-state-judged : tie.Need-slice-aggregate-state-judged
+slice-aggregate-state-judged c = search needs
 
-run-passed-requires : tie.Need-run-passed-requires
-run-passed-requires c κs =
-    let (held, accepted) = passed _ _ _ _ (c .before .before .before .before .before .before .before .before .before .judged-listing .ensures) (c .before .before .before .before .enum-told .given .1) in
-    (held, (accepted, code-room _ _ _ (c .before .before .before .before .before .before .before .before .before .before .before .before .before .before .before .before .before .args .code .now) _ (c .before .before .before .before .before .before .before .before .before .before .before .before .before .before .before .before .before .pre .1) held))
+state-judged-requires : tie.Need-state-judged-requires
+state-judged-requires c κs = c .before .before .before .before .before .before .before .judged-listing .ensures .held (c .before .before .enum-told .given .1) .holds
+
+slice-aggregate-gather : tie.Need-slice-aggregate-gather
+slice-aggregate-gather c = search needs
+
+gather-requires : tie.Need-gather-requires
+gather-requires c κs =
+    let s = c .before .before .before .before .before .before .before .before .before .before .before .before .before .before .before .before .before .before .before in
+    let held = c .before .before .before .before .before .before .before .before .before .before .before .judged-listing .ensures .held (c .before .before .before .before .before .before .enum-told .given .1) in
+    (held .holds .all, code-room _ _ _ (s .args .code .now) _ (s .pre .1) held)
+
+run-judged-requires : tie.Need-run-judged-requires
+run-judged-requires c κs =
+    let judged = c .before .before .before .before .before .before .before .before .before .before .before .before .before .before .before .before .judged-listing .ensures in
+    let accepted = c .before .before .before .before .before .before .before .before .before .before .before .enum-told .given .1 in
+    let same = ap pointsOf (judged .held accepted .points) in
+    (sym (judged .judgement) ∙ accepted, rw same (c .before .before .before .before .gather .ensures, c .before .before .before .before .before .before .before .before .state-judged .ensures))
 
 same-length : tie.Need-same-length
 same-length c = search needs
@@ -60,8 +76,11 @@ run-in-spec =
     enum-known-j
     turned-back-requires
     enum-told
-    slice-aggregate-run-passed
-    run-passed-requires
+    slice-aggregate-state-judged
+    state-judged-requires
+    slice-aggregate-gather
+    gather-requires
+    run-judged-requires
     same-length
     returns
     same-length-2
