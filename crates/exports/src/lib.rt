@@ -1,5 +1,4 @@
 // The checker, the claim lines and the runner for C and Rust.
-use model::answers::Report;
 use model::limits::REGISTERS;
 use model::machine::State;
 use output::arrays::part_numbers;

@@ -1,12 +1,11 @@
 // Whether a stripe that stands along an edge shows a goal.
 use facts::sizes::STRIPE_NUMBERS;
-use model::claims::Stripe;
 ghost use mathlib.Core.Path.{_≡_};
 ghost use Prim.Native.Nat.{_≤_, _<_};
 ghost use Rattle.model.specs.Follows;
 ghost use Rattle.model.specs.Transfer.{stripe};
-ghost use Rattle.facts.specs.Sizes.{edgeStripes, Small, Room};
-ghost use Rattle.facts.specs.StripeRows.{SizedRows, stripeAt, withStripe};
+ghost use Rattle.facts.specs.Sizes.{edgeStripes, Room};
+ghost use Rattle.facts.specs.StripeRows.{SizedRows, stripeAt};
 ghost use Rattle.goals.specs.Goal;
 
 // Whether the i-th row stands for the goal.

@@ -16,7 +16,6 @@ ghost use Prim.Native.Nat.{_+_, _<_};
 ghost use Rattle.model.specs.Limits as Limits;
 ghost use Rattle.model.specs.Listing.{lineAt};
 ghost use lib.ListN.{length};
-ghost use Rattle.saved.specs.States as States;
 ghost use Rattle.saved.specs.States.{isLineOf, targetOn, settingOn, withSetting, registersTo, savedIn, pointFields, registerFields, pointSet, registerSet, registersSet, textOf};
 
 // The point that a line goes to.
