@@ -1,9 +1,10 @@
 -- The greatest fault of six fields says how a word with its fields is judged. Assumes nothing.
 use Prim.Native.Nat.{ℕ, max}
 use native.Mathlib.Omega.{arith}
-use mathlib.Core.Path.{_≡_, refl, sym, _∙_}
+use mathlib.Core.Path.{_≡_, refl, sym, ap, _∙_}
 use mathlib.Core.Bool.{Bool, true, false, _&&_, cond}
-use mathlib.Core.List.{List}
+use mathlib.Core.List.{List, _∷_, map}
+use types.Run.{OneOf}
 use Rattle.model.specs.declared.text.Field.{Field}
 use Rattle.model.specs.declared.text.Word.{Word}
 use Rattle.model.specs.declared.text.FoundWord.the-variants.{Known}
@@ -11,9 +12,10 @@ use Rattle.model.specs.declared.answers.Refusal.the-variants.{FieldShape, Numbe
 use Rattle.model.specs.declared.answers.Judgement.{Judgement}
 use Rattle.model.specs.declared.answers.Judgement.the-variants.{Accepted, Refused}
 use Rattle.model.specs.Lists.{everyBelow}
-use Rattle.model.specs.Words.{shaped, allowed}
+use Rattle.model.specs.Words.{fieldsOf, shaped, allowed}
 use Rattle.model.specs.Lines.{fieldAt, kindAt, F1, F5, inShape, inLimits, judged}
 use Rattle.lines.specs.Faults.{fault, faultOf, greatest, faultIn}
+use Rattle.lines.proofs.SharedRow.{placeOf, shared-row}
 
 -- the greater of two faults
 both : (a b c d : Bool) → max (fault a b) (fault c d) ≡ fault (a && c) (b && d)
@@ -51,17 +53,26 @@ fault-in : (w : Word) (fs : List Field) → faultIn w fs ≡ fault (inShape w fs
 unfolding faultIn inShape inLimits
 fault-in w fs = six (λ (j : ℕ). shaped (kindAt w j) (fieldAt fs j)) (λ (j : ℕ). allowed (kindAt w j) (F1 fs) (F5 fs) (fieldAt fs j))
 
--- the faults of the fields, each for its place in a row
-pub row-fault : (u w : Word) (fs : List Field) → w ≡ u → {a b c d e f : ℕ}
-    → a ≡ faultOf (kindAt u 0) (F1 fs) (F5 fs) (fieldAt fs 0)
-    → b ≡ faultOf (kindAt u 1) (F1 fs) (F5 fs) (fieldAt fs 1)
-    → c ≡ faultOf (kindAt u 2) (F1 fs) (F5 fs) (fieldAt fs 2)
-    → d ≡ faultOf (kindAt u 3) (F1 fs) (F5 fs) (fieldAt fs 3)
-    → e ≡ faultOf (kindAt u 4) (F1 fs) (F5 fs) (fieldAt fs 4)
+-- the faults of the fields, each for its place in the row of u, which the words us share. Only F6 is judged by another field
+pub row-fault : (u : Word) (us : List Word) → map fieldsOf us ≡ map (λ (x : Word). fieldsOf u) us → (w : Word) (fs : List Field) → OneOf (map placeOf (u ∷ us)) (placeOf w) → {a b c d e f : ℕ}
+    → ((f1 f5 : ℕ) → a ≡ faultOf (kindAt u 0) f1 f5 (fieldAt fs 0))
+    → ((f1 f5 : ℕ) → b ≡ faultOf (kindAt u 1) f1 f5 (fieldAt fs 1))
+    → ((f1 f5 : ℕ) → c ≡ faultOf (kindAt u 2) f1 f5 (fieldAt fs 2))
+    → ((f1 f5 : ℕ) → d ≡ faultOf (kindAt u 3) f1 f5 (fieldAt fs 3))
+    → ((f1 f5 : ℕ) → e ≡ faultOf (kindAt u 4) f1 f5 (fieldAt fs 4))
     → f ≡ faultOf (kindAt u 5) (F1 fs) (F5 fs) (fieldAt fs 5)
     → greatest a b c d e f ≡ faultIn w fs
 unfolding faultIn
-row-fault u w fs same p q r s t v = rw (same, p, q, r, s, t, v)
+row-fault u us same w fs one-of p q r s t v =
+    rw (
+      shared-row (fieldsOf u) (u ∷ us) (ap (_∷_ (fieldsOf u)) same) w one-of,
+      p (F1 fs) (F5 fs),
+      q (F1 fs) (F5 fs),
+      r (F1 fs) (F5 fs),
+      s (F1 fs) (F5 fs),
+      t (F1 fs) (F5 fs),
+      v,
+    )
 
 module _ (place : ℕ) (w : Word) (fs : List Field) where
   abbrev judgement : Bool → Bool → Judgement

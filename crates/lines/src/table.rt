@@ -19,7 +19,7 @@ use model::text::Word;
 ghost use mathlib.Core.Path.{_≡_};
 ghost use Rattle.lines.specs.Faults.{faultIn};
 
-// The greatest fault of a word's fields F1 to F6, here a to f: a row for each word.
+// The greatest fault of a word's fields F1 to F6, here a to f: a row for each word, or for several that ask the same.
 pub(crate) fn fault_in(w: Word, fs: [Field; 6]) -> u8
     ensures { λ r. ⌜ r ≡ faultIn w fs ⌝ }
 {
@@ -33,14 +33,18 @@ pub(crate) fn fault_in(w: Word, fs: [Field; 6]) -> u8
         Word::Stop => greatest(empty(a), empty(b), empty(c), empty(d), empty(e), empty(f)),
         Word::Setc => greatest(reg(a), empty(b), empty(c), empty(d), empty(e), number(f)),
         Word::Copy => greatest(reg(a), var(b), empty(c), empty(d), empty(e), empty(f)),
-        Word::Addw => greatest(reg(a), var(b), empty(c), empty(d), choice(e), operand(f, e)),
-        Word::Subw => greatest(reg(a), var(b), empty(c), empty(d), choice(e), operand(f, e)),
-        Word::Mulw => greatest(reg(a), var(b), empty(c), empty(d), choice(e), operand(f, e)),
-        Word::Divf => greatest(reg(a), var(b), empty(c), empty(d), choice(e), operand(f, e)),
+        Word::Addw | Word::Subw | Word::Mulw | Word::Divf => greatest(
+            reg(a),
+            var(b),
+            empty(c),
+            empty(d),
+            choice(e),
+            operand(f, e),
+        ),
         Word::Load => greatest(reg(a), width(b), table(c), scale(d), var(e), offset(f)),
         Word::Stor => greatest(var(a), width(b), empty(c), scale(d), var(e), offset(f)),
         Word::Jump => greatest(empty(a), empty(b), empty(c), target(d), empty(e), empty(f)),
-        Word::Bltu => greatest(
+        Word::Bltu | Word::Bequ => greatest(
             empty(a),
             var(b),
             empty(c),
@@ -48,23 +52,7 @@ pub(crate) fn fault_in(w: Word, fs: [Field; 6]) -> u8
             choice(e),
             operand(f, e),
         ),
-        Word::Bequ => greatest(
-            empty(a),
-            var(b),
-            empty(c),
-            target(d),
-            choice(e),
-            operand(f, e),
-        ),
-        Word::Leas => greatest(
-            var(a),
-            empty(b),
-            empty(c),
-            empty(d),
-            empty(e),
-            claimed(f, a),
-        ),
-        Word::Most => greatest(
+        Word::Leas | Word::Most => greatest(
             var(a),
             empty(b),
             empty(c),
