@@ -6,26 +6,57 @@ ghost use mathlib.Core.Path.{_≡_};
 ghost use lib.ListN.{length, drop};
 ghost use Rattle.model.specs.Words.{textOf, begins, words, wordAmong};
 
+// The words as they stand on a line.
+const STOP: [u8; 4] = *b"STOP";
+
+const SETC: [u8; 4] = *b"SETC";
+
+const COPY: [u8; 4] = *b"COPY";
+
+const ADDW: [u8; 4] = *b"ADDW";
+
+const SUBW: [u8; 4] = *b"SUBW";
+
+const MULW: [u8; 4] = *b"MULW";
+
+const DIVF: [u8; 4] = *b"DIVF";
+
+const LOAD: [u8; 4] = *b"LOAD";
+
+const STOR: [u8; 4] = *b"STOR";
+
+const JUMP: [u8; 4] = *b"JUMP";
+
+const BLTU: [u8; 4] = *b"BLTU";
+
+const BEQU: [u8; 4] = *b"BEQU";
+
+const LEAS: [u8; 4] = *b"LEAS";
+
+const MOST: [u8; 4] = *b"MOST";
+
+const STRP: [u8; 4] = *b"STRP";
+
 // The four bytes of a word.
 pub fn text(w: Word) -> [u8; 4]
     ensures { λ r. ⌜ r ≡ textOf w ⌝ }
 {
     match w {
-        Word::Stop => *b"STOP",
-        Word::Setc => *b"SETC",
-        Word::Copy => *b"COPY",
-        Word::Addw => *b"ADDW",
-        Word::Subw => *b"SUBW",
-        Word::Mulw => *b"MULW",
-        Word::Divf => *b"DIVF",
-        Word::Load => *b"LOAD",
-        Word::Stor => *b"STOR",
-        Word::Jump => *b"JUMP",
-        Word::Bltu => *b"BLTU",
-        Word::Bequ => *b"BEQU",
-        Word::Leas => *b"LEAS",
-        Word::Most => *b"MOST",
-        Word::Strp => *b"STRP",
+        Word::Stop => STOP,
+        Word::Setc => SETC,
+        Word::Copy => COPY,
+        Word::Addw => ADDW,
+        Word::Subw => SUBW,
+        Word::Mulw => MULW,
+        Word::Divf => DIVF,
+        Word::Load => LOAD,
+        Word::Stor => STOR,
+        Word::Jump => JUMP,
+        Word::Bltu => BLTU,
+        Word::Bequ => BEQU,
+        Word::Leas => LEAS,
+        Word::Most => MOST,
+        Word::Strp => STRP,
     }
 }
 
