@@ -18,27 +18,12 @@ not-ended s (pos zero) n = absurd (n refl)
 not-ended s (pos (suc k)) n = refl
 not-ended s (negsuc k) n = refl
 
-check-requires : tie.Need-check-requires
-check-requires c κs = search needs
-
 returns : tie.Need-returns
 returns c =
     let start = c .before .before .before in
     let a = start .args in
     let e : a .more ≡ pos 0 = sym (toZ-ofZ w64 (a .more) (start .fits .more)) ∙ ap (toZ w64) (c .before .if1 .taken) in
     c .check .ensures ∙ sym (ap (inputVerdict (a .listing .now)) e)
-
-sub-check : tie.Need-sub-check
-sub-check c = search needs
-
-part-check-start : tie.Need-part-check-start
-part-check-start c = search needs
-
-part-check-end : tie.Need-part-check-end
-part-check-end c = search needs
-
-check-requires-2 : tie.Need-check-requires-2
-check-requires-2 c κs = search needs
 
 returns-2 : tie.Need-returns-2
 returns-2 c = c .check2 .ensures ∙ not-ended (c .before .before .before .before .args .listing .now) (c .before .before .before .before .args .more) (c .before .before .if1 .left)
@@ -47,10 +32,10 @@ pub input-verdict-spec : {M : Type 1} → statement M
 input-verdict-spec =
     tie.close
     (tie.spec
-    check-requires
+    (λ c κs. search needs)
     returns
-    sub-check
-    part-check-start
-    part-check-end
-    check-requires-2
+    (λ c. search needs)
+    (λ c. search needs)
+    (λ c. search needs)
+    (λ c κs. search needs)
     returns-2)

@@ -5,11 +5,8 @@ use Rattle.model.specs.Output.{printed}
 use Rattle.check_listing.proofs.verdict_line.Statement.{statement}
 use Rattle.check_listing.proofs.verdict_line.Tie as tie
 
-printed-requires : tie.Need-printed-requires
-printed-requires c κs = search needs
-
 returns : tie.Need-returns
 returns c = c .printed .ensures ∙ ap printed (c .before .before .pre)
 
 pub verdict-line-spec : {M : Type 1} → statement M
-verdict-line-spec = tie.close (tie.spec printed-requires returns)
+verdict-line-spec = tie.close (tie.spec (λ c κs. search needs) returns)

@@ -4,20 +4,14 @@ use borrow.Author.Needs.{needs}
 use Rattle.checker.proofs.check.Statement.{statement}
 use Rattle.checker.proofs.check.Tie as tie
 
-slice-aggregate-check-in : tie.Need-slice-aggregate-check-in
-slice-aggregate-check-in c = search needs
-
 check-in-requires : tie.Need-check-in-requires
 check-in-requires c κs = λ short. rw length-replicate (omega arith)
 
 returns : tie.Need-returns
 returns c = c .before .check-in .ensures
 
-check-many-requires : tie.Need-check-many-requires
-check-many-requires c κs = search needs
-
 returns-2 : tie.Need-returns-2
 returns-2 c = c .check-many .ensures
 
 pub check-spec : {M : Type 1} → statement M
-check-spec = tie.close (tie.spec slice-aggregate-check-in check-in-requires returns check-many-requires returns-2)
+check-spec = tie.close (tie.spec (λ c. search needs) check-in-requires returns (λ c κs. search needs) returns-2)

@@ -3,26 +3,14 @@ use Rattle.checker.proofs.Verdicts.{check-refused, check-passed}
 use Rattle.checker.proofs.check_in.Statement.{statement}
 use Rattle.checker.proofs.check_in.Tie as tie
 
-slice-aggregate-judged-listing : tie.Need-slice-aggregate-judged-listing
-slice-aggregate-judged-listing c = search needs
-
 judged-listing-requires : tie.Need-judged-listing-requires
 judged-listing-requires c κs = record { lines = c .before .before .before .before .pre; places = search needs }
-
-enum-known-j : tie.Need-enum-known-j
-enum-known-j c = search needs
 
 enum-told : tie.Need-enum-told
 enum-told c = search needs
 
-same-length : tie.Need-same-length
-same-length c = search needs
-
 returns : tie.Need-returns
 returns c = check-refused _ _ _ _ (c .before .before .before .before .before .before .judged-listing .ensures) _ (c .before .j .given .1)
-
-same-length-2 : tie.Need-same-length-2
-same-length-2 c = search needs
 
 returns-2 : tie.Need-returns-2
 returns-2 c = check-passed _ _ _ _ (c .before .before .before .before .before .judged-listing .ensures) (c .enum-told .given .1)
@@ -31,11 +19,11 @@ pub check-in-spec : {M : Type 1} → statement M
 check-in-spec =
     tie.close
     (tie.spec
-    slice-aggregate-judged-listing
+    (λ c. search needs)
     judged-listing-requires
-    enum-known-j
+    (λ c. search needs)
     enum-told
-    same-length
+    (λ c. search needs)
     returns
-    same-length-2
+    (λ c. search needs)
     returns-2)

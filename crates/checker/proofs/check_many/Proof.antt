@@ -4,26 +4,17 @@ use borrow.Author.Needs.{needs}
 use Rattle.checker.proofs.check_many.Statement.{statement}
 use Rattle.checker.proofs.check_many.Tie as tie
 
-slice-aggregate-check-in : tie.Need-slice-aggregate-check-in
-slice-aggregate-check-in c = search needs
-
 check-in-requires : tie.Need-check-in-requires
 check-in-requires c κs = λ short. rw length-replicate (omega arith)
 
 returns : tie.Need-returns
 returns c = c .before .check-in .ensures
 
-slice-aggregate-check-in-2 : tie.Need-slice-aggregate-check-in-2
-slice-aggregate-check-in-2 c = search needs
-
 check-in-requires-2 : tie.Need-check-in-requires-2
 check-in-requires-2 c κs = λ short. rw length-replicate (omega arith)
 
 returns-2 : tie.Need-returns-2
 returns-2 c = c .before .check-in2 .ensures
-
-slice-aggregate-check-in-3 : tie.Need-slice-aggregate-check-in-3
-slice-aggregate-check-in-3 c = search needs
 
 check-in-requires-3 : tie.Need-check-in-requires-3
 check-in-requires-3 c κs = λ short. rw length-replicate (omega arith)
@@ -35,12 +26,12 @@ pub check-many-spec : {M : Type 1} → statement M
 check-many-spec =
     tie.close
     (tie.spec
-    slice-aggregate-check-in
+    (λ c. search needs)
     check-in-requires
     returns
-    slice-aggregate-check-in-2
+    (λ c. search needs)
     check-in-requires-2
     returns-2
-    slice-aggregate-check-in-3
+    (λ c. search needs)
     check-in-requires-3
     returns-3)

@@ -9,17 +9,8 @@ use Rattle.claim_parts.proofs.claim_lines.Tie as tie
 span : (a n : ℕ) → a + n - a ≡ n
 span a n = omega arith
 
-claim-part-requires : tie.Need-claim-part-requires
-claim-part-requires c κs = search needs
-
 add-e : tie.Need-add-e
 add-e c = omega (arith, lies-inside _ _ _ (c .before .claim-part .ensures))
-
-sub-result : tie.Need-sub-result
-sub-result c = search needs
-
-part-result-start : tie.Need-part-result-start
-part-result-start c = search needs
 
 part-result-end : tie.Need-part-result-end
 part-result-end c = omega (arith, lies-inside _ _ _ (c .before .claim-part .ensures))
@@ -30,4 +21,4 @@ returns c = rw span (holds-lines _ _ _ (c .before .before .claim-part .ensures))
 pub claim-lines-spec : {M : Type 1} → statement M
 claim-lines-spec =
     tie.close
-    (tie.spec claim-part-requires add-e sub-result part-result-start part-result-end returns)
+    (tie.spec (λ c κs. search needs) add-e (λ c. search needs) (λ c. search needs) part-result-end returns)

@@ -9,18 +9,6 @@ use Rattle.domain.proofs.Edges.{low-long, ranges-written, highs-written
 use Rattle.domain.proofs.along.Statement.{statement}
 use Rattle.domain.proofs.along.Tie as tie
 
-changes-along-requires : tie.Need-changes-along-requires
-changes-along-requires c κs = search needs
-
-plan-along-requires : tie.Need-plan-along-requires
-plan-along-requires c κs = search needs
-
-change-requires : tie.Need-change-requires
-change-requires c κs = search needs
-
-carry-out-requires : tie.Need-carry-out-requires
-carry-out-requires c κs = search needs
-
 returns : tie.Need-returns
 returns c =
     let start = c .before .before .before .before .before .before .before .before .before .before .before in
@@ -47,8 +35,8 @@ pub along-spec : {M : Type 1} → statement M
 along-spec =
     tie.close
     (tie.spec
-    changes-along-requires
-    plan-along-requires
-    change-requires
-    carry-out-requires
+    (λ c κs. search needs)
+    (λ c κs. search needs)
+    (λ c κs. search needs)
+    (λ c κs. search needs)
     returns)

@@ -30,24 +30,6 @@ loop-holds : tie.Need-loop-holds Inv-loop μ-loop
 unfolding everyBelow
 loop-holds c = (omega arith, refl)
 
-mul-every : tie.Need-mul-every Inv-loop μ-loop
-mul-every c = omega arith
-
-element-copy-out-every : tie.Need-element-copy-out-every Inv-loop μ-loop
-element-copy-out-every c = search needs
-
-mul-every-2 : tie.Need-mul-every-2 Inv-loop μ-loop
-mul-every-2 c = omega arith
-
-element-copy-out-every-2 : tie.Need-element-copy-out-every-2 Inv-loop μ-loop
-element-copy-out-every-2 c = search needs
-
-add-v : tie.Need-add-v Inv-loop μ-loop
-add-v c = omega arith
-
-loop-less : tie.Need-loop-less Inv-loop μ-loop
-loop-less c = omega arith
-
 loop-again : tie.Need-loop-again Inv-loop μ-loop
 unfolding everyBelow
 loop-again c =
@@ -71,11 +53,11 @@ is-possible-spec =
     Inv-loop
     μ-loop
     loop-holds
-    mul-every
-    element-copy-out-every
-    mul-every-2
-    element-copy-out-every-2
-    add-v
-    loop-less
+    (λ c. omega arith)
+    (λ c. search needs)
+    (λ c. omega arith)
+    (λ c. search needs)
+    (λ c. omega arith)
+    (λ c. omega arith)
     loop-again
     returns)

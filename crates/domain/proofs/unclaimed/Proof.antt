@@ -30,24 +30,6 @@ laid = (
   },
 )
 
-unclaimed-requires : tie.Need-unclaimed-requires
-unclaimed-requires c κs = search needs
-
-unclaimed-requires-2 : tie.Need-unclaimed-requires-2
-unclaimed-requires-2 c κs = search needs
-
-element-write-low : tie.Need-element-write-low
-element-write-low c = search needs
-
-element-write-low-2 : tie.Need-element-write-low-2
-element-write-low-2 c = search needs
-
-element-write-high : tie.Need-element-write-high
-element-write-high c = search needs
-
-element-write-high-2 : tie.Need-element-write-high-2
-element-write-high-2 c = search needs
-
 returns : tie.Need-returns
 returns c = subst₂ Laid (sym (c .before .before .before .unclaimed .ensures)) (sym (c .before .before .unclaimed2 .ensures)) laid
 
@@ -55,10 +37,10 @@ pub unclaimed-spec : {M : Type 1} → statement M
 unclaimed-spec =
     tie.close
     (tie.spec
-    unclaimed-requires
-    unclaimed-requires-2
-    element-write-low
-    element-write-low-2
-    element-write-high
-    element-write-high-2
+    (λ c κs. search needs)
+    (λ c κs. search needs)
+    (λ c. search needs)
+    (λ c. search needs)
+    (λ c. search needs)
+    (λ c. search needs)
     returns)

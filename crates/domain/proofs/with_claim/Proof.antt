@@ -6,9 +6,6 @@ use Rattle.facts.proofs.PointArrays.{unclaimed-top, ends-even, standing-sized, 
 use Rattle.domain.proofs.with_claim.Statement.{statement}
 use Rattle.domain.proofs.with_claim.Tie as tie
 
-enum-known-c : tie.Need-enum-known-c
-enum-known-c c = search needs
-
 mul-low : tie.Need-mul-low
 mul-low c =
     let h = rw (c .before .c .given .1) at (c .before .before .before .pre .1 .0) in
@@ -18,9 +15,6 @@ element-write-low : tie.Need-element-write-low
 element-write-low c =
     let h = rw (c .before .c .given .1) at (c .before .before .before .pre .1 .0) in
     omega arith
-
-enum-known-c-2 : tie.Need-enum-known-c-2
-enum-known-c-2 c = search needs
 
 mul-high : tie.Need-mul-high
 mul-high c =
@@ -32,18 +26,12 @@ element-write-high c =
     let h = rw (c .before .c2 .given .1) at (c .before .before .before .pre .1 .0) in
     omega arith
 
-enum-known-c-3 : tie.Need-enum-known-c-3
-enum-known-c-3 c = search needs
-
 write-stripe-requires : tie.Need-write-stripe-requires
 write-stripe-requires c κs =
     let start = c .before .before .before .before in
     let h = rw (c .before .before .c3 .given .1) at (start .pre .1 .0) in
     let room = rw (c .before .before .c3 .given .1) at (start .pre .1 .1) in
     (standing-sized (start .args .stripes .now) (start .args .n) (start .pre .0 .stripes), (omega arith, record { plus = omega (arith, h .plus); minus = omega (arith, h .minus) }))
-
-add-result : tie.Need-add-result
-add-result c = search needs
 
 returns : tie.Need-returns
 returns c =
@@ -79,15 +67,15 @@ pub with-claim-spec : {M : Type 1} → statement M
 with-claim-spec =
     tie.close
     (tie.spec
-    enum-known-c
+    (λ c. search needs)
     mul-low
     element-write-low
-    enum-known-c-2
+    (λ c. search needs)
     mul-high
     element-write-high
-    enum-known-c-3
+    (λ c. search needs)
     write-stripe-requires
-    add-result
+    (λ c. search needs)
     returns
     returns-2
     returns-3)

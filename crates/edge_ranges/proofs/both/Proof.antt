@@ -6,14 +6,8 @@ use Rattle.model.specs.Transfer.{operandRange}
 use Rattle.edge_ranges.proofs.both.Statement.{statement}
 use Rattle.edge_ranges.proofs.both.Tie as tie
 
-enum-known-o : tie.Need-enum-known-o
-enum-known-o c = search needs
-
 enum-told : tie.Need-enum-told
 enum-told c = search needs
-
-one-requires : tie.Need-one-requires
-one-requires c κs = search needs
 
 returns : tie.Need-returns
 returns c rs f e =
@@ -32,4 +26,4 @@ returns-2 : tie.Need-returns-2
 returns-2 c rs f e = rw (c .before .enum-told .given .1) (c .one .ensures rs)
 
 pub both-spec : {M : Type 1} → statement M
-both-spec = tie.close (tie.spec enum-known-o enum-told one-requires returns returns-2)
+both-spec = tie.close (tie.spec (λ c. search needs) enum-told (λ c κs. search needs) returns returns-2)

@@ -23,25 +23,10 @@ among low high ends h = rw (ranges-long low high (ends-even low high ends)) (ome
 enum-told : tie.Need-enum-told
 enum-told c = search needs
 
-unchanged-requires : tie.Need-unchanged-requires
-unchanged-requires c κs = search needs
-
-enum-known-i : tie.Need-enum-known-i
-enum-known-i c = search needs
-
-cast-exactly : tie.Need-cast-exactly
-cast-exactly c = search needs
-
-exactly-requires : tie.Need-exactly-requires
-exactly-requires c κs = search needs
-
 one-requires : tie.Need-one-requires
 one-requires c κs =
     let h = rw (c .before .before .i .given .1) at (c .before .before .before .before .pre .1) in
     omega arith
-
-enum-known-i-2 : tie.Need-enum-known-i-2
-enum-known-i-2 c = search needs
 
 range-at-requires : tie.Need-range-at-requires
 range-at-requires c κs =
@@ -53,95 +38,50 @@ one-requires-2 c κs =
     let h = rw (c .before .before .i2 .given .1) at (c .before .before .before .before .pre .1) in
     omega arith
 
-enum-known-i-3 : tie.Need-enum-known-i-3
-enum-known-i-3 c = search needs
-
 ranges-at-requires : tie.Need-ranges-at-requires
 ranges-at-requires c κs =
     let h = rw (c .before .i3 .given .1) at (c .before .before .before .pre .1) in
     (c .before .before .before .pre .0, (h .variable, h .operand))
-
-sum-requires : tie.Need-sum-requires
-sum-requires c κs = search needs
 
 one-requires-3 : tie.Need-one-requires-3
 one-requires-3 c κs =
     let h = rw (c .before .before .before .i3 .given .1) at (c .before .before .before .before .before .pre .1) in
     omega arith
 
-enum-known-i-4 : tie.Need-enum-known-i-4
-enum-known-i-4 c = search needs
-
 ranges-at-requires-2 : tie.Need-ranges-at-requires-2
 ranges-at-requires-2 c κs =
     let h = rw (c .before .i4 .given .1) at (c .before .before .before .pre .1) in
     (c .before .before .before .pre .0, (h .variable, h .operand))
-
-difference-requires : tie.Need-difference-requires
-difference-requires c κs = search needs
 
 one-requires-4 : tie.Need-one-requires-4
 one-requires-4 c κs =
     let h = rw (c .before .before .before .i4 .given .1) at (c .before .before .before .before .before .pre .1) in
     omega arith
 
-enum-known-i-5 : tie.Need-enum-known-i-5
-enum-known-i-5 c = search needs
-
 ranges-at-requires-3 : tie.Need-ranges-at-requires-3
 ranges-at-requires-3 c κs =
     let h = rw (c .before .i5 .given .1) at (c .before .before .before .pre .1) in
     (c .before .before .before .pre .0, (h .variable, h .operand))
-
-product-requires : tie.Need-product-requires
-product-requires c κs = search needs
 
 one-requires-5 : tie.Need-one-requires-5
 one-requires-5 c κs =
     let h = rw (c .before .before .before .i5 .given .1) at (c .before .before .before .before .before .pre .1) in
     omega arith
 
-enum-known-i-6 : tie.Need-enum-known-i-6
-enum-known-i-6 c = search needs
-
 ranges-at-requires-4 : tie.Need-ranges-at-requires-4
 ranges-at-requires-4 c κs =
     let h = rw (c .before .i6 .given .1) at (c .before .before .before .pre .1) in
     (c .before .before .before .pre .0, (h .variable, h .operand))
-
-quotient-requires : tie.Need-quotient-requires
-quotient-requires c κs = search needs
 
 one-requires-6 : tie.Need-one-requires-6
 one-requires-6 c κs =
     let h = rw (c .before .before .before .i6 .given .1) at (c .before .before .before .before .before .pre .1) in
     omega arith
 
-enum-known-i-7 : tie.Need-enum-known-i-7
-enum-known-i-7 c = search needs
-
-loaded-requires : tie.Need-loaded-requires
-loaded-requires c κs = search needs
-
 one-requires-7 : tie.Need-one-requires-7
 one-requires-7 c κs =
     let h = rw (c .before .before .i7 .given .1) at (c .before .before .before .before .pre .1) in
     omega arith
-
-enum-known-i-8 : tie.Need-enum-known-i-8
-enum-known-i-8 c = search needs
-
-unchanged-requires-2 : tie.Need-unchanged-requires-2
-unchanged-requires-2 c κs = search needs
-
-enum-known-i-9 : tie.Need-enum-known-i-9
-enum-known-i-9 c = search needs
-
-unchanged-requires-3 : tie.Need-unchanged-requires-3
-unchanged-requires-3 c κs = search needs
-
-enum-known-i-10 : tie.Need-enum-known-i-10
-enum-known-i-10 c = search needs
 
 ranges-at-requires-5 : tie.Need-ranges-at-requires-5
 ranges-at-requires-5 c κs =
@@ -152,9 +92,6 @@ ordered-ranges-requires : tie.Need-ordered-ranges-requires
 ordered-ranges-requires c κs =
     let h = rw (c .before .before .i10 .given .1) at (c .before .before .before .before .pre .1) in
     (c .ranges-at5 .ensures .1, (h .variable, h .operand))
-
-enum-known-i-11 : tie.Need-enum-known-i-11
-enum-known-i-11 c = search needs
 
 ranges-at-requires-6 : tie.Need-ranges-at-requires-6
 ranges-at-requires-6 c κs =
@@ -243,41 +180,41 @@ changes-along-spec =
     tie.close
     (tie.spec
     enum-told
-    unchanged-requires
-    enum-known-i
-    cast-exactly
-    exactly-requires
+    (λ c κs. search needs)
+    (λ c. search needs)
+    (λ c. search needs)
+    (λ c κs. search needs)
     one-requires
-    enum-known-i-2
+    (λ c. search needs)
     range-at-requires
     one-requires-2
-    enum-known-i-3
+    (λ c. search needs)
     ranges-at-requires
-    sum-requires
+    (λ c κs. search needs)
     one-requires-3
-    enum-known-i-4
+    (λ c. search needs)
     ranges-at-requires-2
-    difference-requires
+    (λ c κs. search needs)
     one-requires-4
-    enum-known-i-5
+    (λ c. search needs)
     ranges-at-requires-3
-    product-requires
+    (λ c κs. search needs)
     one-requires-5
-    enum-known-i-6
+    (λ c. search needs)
     ranges-at-requires-4
-    quotient-requires
+    (λ c κs. search needs)
     one-requires-6
-    enum-known-i-7
-    loaded-requires
+    (λ c. search needs)
+    (λ c κs. search needs)
     one-requires-7
-    enum-known-i-8
-    unchanged-requires-2
-    enum-known-i-9
-    unchanged-requires-3
-    enum-known-i-10
+    (λ c. search needs)
+    (λ c κs. search needs)
+    (λ c. search needs)
+    (λ c κs. search needs)
+    (λ c. search needs)
     ranges-at-requires-5
     ordered-ranges-requires
-    enum-known-i-11
+    (λ c. search needs)
     ranges-at-requires-6
     matched-ranges-requires
     returns

@@ -4,9 +4,6 @@ use mathlib.Core.Path.{sym, _∙_}
 use Rattle.edge_ranges.proofs.difference.Statement.{statement}
 use Rattle.edge_ranges.proofs.difference.Tie as tie
 
-difference-fits-requires : tie.Need-difference-fits-requires
-difference-fits-requires c κs = search needs
-
 whole-difference-requires : tie.Need-whole-difference-requires
 whole-difference-requires c κs = leb-true _ _ (sym (c .before .difference-fits .ensures) ∙ c .if1 .taken)
 
@@ -18,4 +15,4 @@ returns-2 c = rw (← c .before .difference-fits .ensures, c .if1 .left)
 
 pub difference-spec : {M : Type 1} → statement M
 difference-spec =
-    tie.close (tie.spec difference-fits-requires whole-difference-requires returns returns-2)
+    tie.close (tie.spec (λ c κs. search needs) whole-difference-requires returns returns-2)

@@ -5,18 +5,6 @@ use Rattle.edge_ranges.proofs.BranchRanges.{changed-twice}
 use Rattle.edge_ranges.proofs.equal_ranges.Statement.{statement}
 use Rattle.edge_ranges.proofs.equal_ranges.Tie as tie
 
-overlap-requires : tie.Need-overlap-requires
-overlap-requires c κs = search needs
-
-operand-after-requires : tie.Need-operand-after-requires
-operand-after-requires c κs = search needs
-
-overlap-requires-2 : tie.Need-overlap-requires-2
-overlap-requires-2 c κs = search needs
-
-both-requires : tie.Need-both-requires
-both-requires c κs = search needs
-
 returns : tie.Need-returns
 returns c rs inside read =
     let a = c .before .before .before .before .args in
@@ -26,4 +14,4 @@ returns c rs inside read =
 pub equal-ranges-spec : {M : Type 1} → statement M
 equal-ranges-spec =
     tie.close
-    (tie.spec overlap-requires operand-after-requires overlap-requires-2 both-requires returns)
+    (tie.spec (λ c κs. search needs) (λ c κs. search needs) (λ c κs. search needs) (λ c κs. search needs) returns)

@@ -4,9 +4,6 @@ use native.Mathlib.Omega.{arith}
 use Rattle.edge_ranges.proofs.high_without.Statement.{statement}
 use Rattle.edge_ranges.proofs.high_without.Tie as tie
 
-sub-result : tie.Need-sub-result
-sub-result c = search needs
-
 returns : tie.Need-returns
 returns c = rw (eq-eqb _ _ (c .before .if1 .taken)) (omega arith)
 
@@ -17,4 +14,4 @@ returns-3 : tie.Need-returns-3
 returns-3 c = rw (ne-eqb _ _ (c .if1 .left))
 
 pub high-without-spec : {M : Type 1} → statement M
-high-without-spec = tie.close (tie.spec sub-result returns returns-2 returns-3)
+high-without-spec = tie.close (tie.spec (λ c. search needs) returns returns-2 returns-3)

@@ -5,18 +5,6 @@ use Rattle.edge_ranges.proofs.loaded.Tie as tie
 enum-told : tie.Need-enum-told
 enum-told c = search needs
 
-between-requires : tie.Need-between-requires
-between-requires c κs = search needs
-
-enum-told-2 : tie.Need-enum-told-2
-enum-told-2 c = search needs
-
-between-requires-2 : tie.Need-between-requires-2
-between-requires-2 c κs = search needs
-
-enum-told-3 : tie.Need-enum-told-3
-enum-told-3 c = search needs
-
 returns : tie.Need-returns
 returns c = rw (c .before .enum-told .given .1) (c .between .ensures)
 
@@ -31,10 +19,10 @@ loaded-spec =
     tie.close
     (tie.spec
     enum-told
-    between-requires
-    enum-told-2
-    between-requires-2
-    enum-told-3
+    (λ c κs. search needs)
+    (λ c. search needs)
+    (λ c κs. search needs)
+    (λ c. search needs)
     returns
     returns-2
     returns-3)

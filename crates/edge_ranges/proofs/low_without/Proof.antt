@@ -3,9 +3,6 @@ use borrow.Author.Tests.{eq-eqb, ne-eqb}
 use Rattle.edge_ranges.proofs.low_without.Statement.{statement}
 use Rattle.edge_ranges.proofs.low_without.Tie as tie
 
-add-result : tie.Need-add-result
-add-result c = search needs
-
 returns : tie.Need-returns
 returns c = rw (eq-eqb _ _ (c .if1 .taken))
 
@@ -13,4 +10,4 @@ returns-2 : tie.Need-returns-2
 returns-2 c = rw (ne-eqb _ _ (c .if1 .left))
 
 pub low-without-spec : {M : Type 1} → statement M
-low-without-spec = tie.close (tie.spec add-result returns returns-2)
+low-without-spec = tie.close (tie.spec (λ c. search needs) returns returns-2)

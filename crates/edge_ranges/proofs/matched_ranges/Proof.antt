@@ -6,15 +6,6 @@ use Rattle.edge_ranges.proofs.matched_ranges.Tie as tie
 enum-told : tie.Need-enum-told
 enum-told c = search needs
 
-unequal-ranges-requires : tie.Need-unequal-ranges-requires
-unequal-ranges-requires c κs = search needs
-
-enum-known-e : tie.Need-enum-known-e
-enum-known-e c = search needs
-
-equal-ranges-requires : tie.Need-equal-ranges-requires
-equal-ranges-requires c κs = search needs
-
 returns : tie.Need-returns
 returns c rs inside read = rw (c .before .enum-told .given .1) (c .unequal-ranges .ensures rs (c .before .before .before .args .o) read)
 
@@ -26,8 +17,8 @@ matched-ranges-spec =
     tie.close
     (tie.spec
     enum-told
-    unequal-ranges-requires
-    enum-known-e
-    equal-ranges-requires
+    (λ c κs. search needs)
+    (λ c. search needs)
+    (λ c κs. search needs)
     returns
     returns-2)

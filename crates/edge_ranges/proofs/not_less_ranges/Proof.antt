@@ -6,18 +6,6 @@ use Rattle.edge_ranges.proofs.BranchRanges.{changed-twice}
 use Rattle.edge_ranges.proofs.not_less_ranges.Statement.{statement}
 use Rattle.edge_ranges.proofs.not_less_ranges.Tie as tie
 
-at-least-requires : tie.Need-at-least-requires
-at-least-requires c κs = search needs
-
-operand-after-requires : tie.Need-operand-after-requires
-operand-after-requires c κs = search needs
-
-at-most-requires : tie.Need-at-most-requires
-at-most-requires c κs = search needs
-
-both-requires : tie.Need-both-requires
-both-requires c κs = search needs
-
 returns : tie.Need-returns
 returns c rs inside read =
     let a = c .before .before .before .before .args in
@@ -27,4 +15,4 @@ returns c rs inside read =
 pub not-less-ranges-spec : {M : Type 1} → statement M
 not-less-ranges-spec =
     tie.close
-    (tie.spec at-least-requires operand-after-requires at-most-requires both-requires returns)
+    (tie.spec (λ c κs. search needs) (λ c κs. search needs) (λ c κs. search needs) (λ c κs. search needs) returns)

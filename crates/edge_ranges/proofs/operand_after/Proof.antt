@@ -5,12 +5,6 @@ use Rattle.model.specs.Transfer.{operandRange}
 use Rattle.edge_ranges.proofs.operand_after.Statement.{statement}
 use Rattle.edge_ranges.proofs.operand_after.Tie as tie
 
-enum-known-o : tie.Need-enum-known-o
-enum-known-o c = search needs
-
-range-after-requires : tie.Need-range-after-requires
-range-after-requires c κs = search needs
-
 enum-told : tie.Need-enum-told
 enum-told c = search needs
 
@@ -26,4 +20,4 @@ returns-2 c rs inside e =
 
 pub operand-after-spec : {M : Type 1} → statement M
 operand-after-spec =
-    tie.close (tie.spec enum-known-o range-after-requires enum-told returns returns-2)
+    tie.close (tie.spec (λ c. search needs) (λ c κs. search needs) enum-told returns returns-2)

@@ -6,15 +6,6 @@ use Rattle.edge_ranges.proofs.ordered_ranges.Tie as tie
 enum-told : tie.Need-enum-told
 enum-told c = search needs
 
-not-less-ranges-requires : tie.Need-not-less-ranges-requires
-not-less-ranges-requires c κs = search needs
-
-enum-known-e : tie.Need-enum-known-e
-enum-known-e c = search needs
-
-less-ranges-requires : tie.Need-less-ranges-requires
-less-ranges-requires c κs = search needs
-
 returns : tie.Need-returns
 returns c rs inside read = rw (c .before .enum-told .given .1) (c .not-less-ranges .ensures rs inside read)
 
@@ -26,8 +17,8 @@ ordered-ranges-spec =
     tie.close
     (tie.spec
     enum-told
-    not-less-ranges-requires
-    enum-known-e
-    less-ranges-requires
+    (λ c κs. search needs)
+    (λ c. search needs)
+    (λ c κs. search needs)
     returns
     returns-2)

@@ -4,9 +4,6 @@ use native.Mathlib.Omega.{arith}
 use Rattle.edge_ranges.proofs.product.Statement.{statement}
 use Rattle.edge_ranges.proofs.product.Tie as tie
 
-product-fits-requires : tie.Need-product-fits-requires
-product-fits-requires c κs = search needs
-
 mul-between : tie.Need-mul-between
 mul-between c = omega (arith, mul-le-mul (c .before .before .before .pre .0 .low) (c .before .before .before .pre .1 .low))
 
@@ -14,9 +11,6 @@ mul-between-2 : tie.Need-mul-between-2
 mul-between-2 c =
     let start = c .before .before .before .before in
     omega (arith, mul-le-mul (start .pre .0 .high) (start .pre .1 .high))
-
-between-requires : tie.Need-between-requires
-between-requires c κs = search needs
 
 returns : tie.Need-returns
 returns c = rw (← c .before .before .before .before .product-fits .ensures, c .before .before .before .if1 .taken) (c .between .ensures)
@@ -27,4 +21,4 @@ returns-2 c = rw (← c .before .product-fits .ensures, c .if1 .left)
 pub product-spec : {M : Type 1} → statement M
 product-spec =
     tie.close
-    (tie.spec product-fits-requires mul-between mul-between-2 between-requires returns returns-2)
+    (tie.spec (λ c κs. search needs) mul-between mul-between-2 (λ c κs. search needs) returns returns-2)

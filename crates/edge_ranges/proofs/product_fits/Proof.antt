@@ -7,8 +7,5 @@ use Rattle.edge_ranges.proofs.product_fits.Tie as tie
 mul-result : tie.Need-mul-result
 mul-result c = omega (arith, mul-le-mul (c .before .pre .0 .high) (c .before .pre .1 .high))
 
-returns : tie.Need-returns
-returns c = search needs
-
 pub product-fits-spec : {M : Type 1} → statement M
-product-fits-spec = tie.close (tie.spec mul-result returns)
+product-fits-spec = tie.close (tie.spec mul-result (λ c. search needs))

@@ -8,21 +8,6 @@ use Rattle.facts.proofs.PointArrays.{ends-even}
 use Rattle.edge_ranges.proofs.range_at.Statement.{statement}
 use Rattle.edge_ranges.proofs.range_at.Tie as tie
 
-mul-between : tie.Need-mul-between
-mul-between c = search needs
-
-element-copy-out-between : tie.Need-element-copy-out-between
-element-copy-out-between c = search needs
-
-mul-between-2 : tie.Need-mul-between-2
-mul-between-2 c = search needs
-
-element-copy-out-between-2 : tie.Need-element-copy-out-between-2
-element-copy-out-between-2 c = search needs
-
-between-requires : tie.Need-between-requires
-between-requires c κs = search needs
-
 returns : tie.Need-returns
 returns c =
     let start = c .before .before .before in
@@ -36,9 +21,9 @@ pub range-at-spec : {M : Type 1} → statement M
 range-at-spec =
     tie.close
     (tie.spec
-    mul-between
-    element-copy-out-between
-    mul-between-2
-    element-copy-out-between-2
-    between-requires
+    (λ c. search needs)
+    (λ c. search needs)
+    (λ c. search needs)
+    (λ c. search needs)
+    (λ c κs. search needs)
     returns)

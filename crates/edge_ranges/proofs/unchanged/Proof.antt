@@ -11,12 +11,6 @@ use Rattle.edge_ranges.specs.Changes.{Makes}
 use Rattle.edge_ranges.proofs.unchanged.Statement.{statement}
 use Rattle.edge_ranges.proofs.unchanged.Tie as tie
 
-range-at-requires : tie.Need-range-at-requires
-range-at-requires c κs = search needs
-
-one-requires : tie.Need-one-requires
-one-requires c κs = search needs
-
 returns : tie.Need-returns
 returns c =
     let a = c .before .before .args in
@@ -24,4 +18,4 @@ returns c =
     subst (Makes (c .one .result) rs) (ap (set rs 0) (c .before .range-at .ensures .0) ∙ set-getD rs 0 (exactly 0)) (c .one .ensures rs)
 
 pub unchanged-spec : {M : Type 1} → statement M
-unchanged-spec = tie.close (tie.spec range-at-requires one-requires returns)
+unchanged-spec = tie.close (tie.spec (λ c κs. search needs) (λ c κs. search needs) returns)

@@ -11,21 +11,12 @@ use Rattle.edge_ranges.specs.Changes.{Makes}
 use Rattle.edge_ranges.proofs.unequal_ranges.Statement.{statement}
 use Rattle.edge_ranges.proofs.unequal_ranges.Tie as tie
 
-without-requires : tie.Need-without-requires
-without-requires c κs = search needs
-
-one-requires : tie.Need-one-requires
-one-requires c κs = search needs
-
 returns : tie.Need-returns
 returns c rs o read =
     let a = c .before .before .before .before .args in
     let own : a .p .r ≡ rangeOf rs (a .i) = ap (λ (x : Pair). x .r) read in
     let other : a .p .q ≡ operandRange rs o = ap (λ (x : Pair). x .q) read in
     rw (← other, eq-eqb _ _ (c .before .before .if1 .taken)) (rw (c .before .without .ensures, own) at (c .one .ensures rs))
-
-one-requires-2 : tie.Need-one-requires-2
-one-requires-2 c κs = search needs
 
 returns-2 : tie.Need-returns-2
 returns-2 c rs o read =
@@ -36,4 +27,4 @@ returns-2 c rs o read =
 
 pub unequal-ranges-spec : {M : Type 1} → statement M
 unequal-ranges-spec =
-    tie.close (tie.spec without-requires one-requires returns one-requires-2 returns-2)
+    tie.close (tie.spec (λ c κs. search needs) (λ c κs. search needs) returns (λ c κs. search needs) returns-2)

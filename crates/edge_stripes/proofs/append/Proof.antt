@@ -8,12 +8,6 @@ use Rattle.facts.proofs.ArrayContents.{stripes-written}
 use Rattle.edge_stripes.proofs.append.Statement.{statement}
 use Rattle.edge_stripes.proofs.append.Tie as tie
 
-write-stripe-requires : tie.Need-write-stripe-requires
-write-stripe-requires c κs = search needs
-
-add-result : tie.Need-add-result
-add-result c = search needs
-
 returns : tie.Need-returns
 returns c =
     let start = c .before .before in
@@ -22,4 +16,4 @@ returns c =
     (record { same = ap (λ (l : List ℕ). stripesOf l (a .m + 1)) (wrote .0) ∙ stripes-written (a .stripes .now) (a .m) (a .s) (start .pre .0) (start .pre .1 .0); sized = wrote .1 }, refl)
 
 pub append-spec : {M : Type 1} → statement M
-append-spec = tie.close (tie.spec write-stripe-requires add-result returns)
+append-spec = tie.close (tie.spec (λ c κs. search needs) (λ c. search needs) returns)

@@ -8,17 +8,11 @@ use Rattle.edge_stripes.proofs.append_added.Tie as tie
 enum-told : tie.Need-enum-told
 enum-told c = search needs
 
-enum-known-a : tie.Need-enum-known-a
-enum-known-a c = search needs
-
 append-requires : tie.Need-append-requires
 append-requires c κs =
     let start = c .before .before .before .before in
     let h = rw (c .before .before .a .given .1) at (start .pre .1) in
     (start .pre .0, (omega arith, record { plus = omega arith; minus = omega arith }))
-
-enum-known-a-2 : tie.Need-enum-known-a-2
-enum-known-a-2 c = search needs
 
 append-requires-2 : tie.Need-append-requires-2
 append-requires-2 c κs =
@@ -47,9 +41,9 @@ append-added-spec =
     tie.close
     (tie.spec
     enum-told
-    enum-known-a
+    (λ c. search needs)
     append-requires
-    enum-known-a-2
+    (λ c. search needs)
     append-requires-2
     append-requires-3
     returns

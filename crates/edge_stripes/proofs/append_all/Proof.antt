@@ -34,12 +34,6 @@ append-kept-requires c κs =
     let standing = start .pre .1 .0 in
     (subst (Small greatestBound) (sym (c .before .stripe-at .ensures)) (standing-small (a .stripes .now) (a .n) (at .i) standing (omega arith)), (start .pre .0, (at .inv .2 .sized, omega (arith, standing .few, start .pre .1 .1 .1))))
 
-add-i : tie.Need-add-i Inv-loop μ-loop
-add-i c = omega arith
-
-loop-less : tie.Need-loop-less Inv-loop μ-loop
-loop-less c = omega arith
-
 loop-again : tie.Need-loop-again Inv-loop μ-loop
 loop-again c =
     let a = c .before .before .before .before .before .args in
@@ -63,7 +57,7 @@ append-all-spec =
     loop-holds
     stripe-at-requires
     append-kept-requires
-    add-i
-    loop-less
+    (λ c. omega arith)
+    (λ c. omega arith)
     loop-again
     returns)

@@ -9,35 +9,14 @@ use Rattle.edge_stripes.proofs.append_kept.Tie as tie
 enum-told : tie.Need-enum-told
 enum-told c = search needs
 
-append-requires : tie.Need-append-requires
-append-requires c κs = search needs
-
-enum-known-k : tie.Need-enum-known-k
-enum-known-k c = search needs
-
-names-requires : tie.Need-names-requires
-names-requires c κs = search needs
-
 returns : tie.Need-returns
 returns c =
     let start = c .before .before .before .before .before in
     let a = start .args in
     (rw (c .before .before .before .k .given .1, named-one (a .s) _ (sym (c .before .names .ensures) ∙ c .if1 .taken)) (extends-none (a .stripes .now) (a .m) (start .pre .1 .1 .0)), omega arith)
 
-append-requires-2 : tie.Need-append-requires-2
-append-requires-2 c κs = search needs
-
-enum-known-k-2 : tie.Need-enum-known-k-2
-enum-known-k-2 c = search needs
-
 shifted-requires : tie.Need-shifted-requires
 shifted-requires c κs = (c .before .before .before .pre .0, rw (c .before .k2 .given .1) at (c .before .before .before .pre .1 .0))
-
-bound-in-limits-requires : tie.Need-bound-in-limits-requires
-bound-in-limits-requires c κs = search needs
-
-append-requires-3 : tie.Need-append-requires-3
-append-requires-3 c κs = search needs
 
 returns-2 : tie.Need-returns-2
 returns-2 c =
@@ -63,15 +42,15 @@ append-kept-spec =
     tie.close
     (tie.spec
     enum-told
-    append-requires
-    enum-known-k
-    names-requires
+    (λ c κs. search needs)
+    (λ c. search needs)
+    (λ c κs. search needs)
     returns
-    append-requires-2
-    enum-known-k-2
+    (λ c κs. search needs)
+    (λ c. search needs)
     shifted-requires
-    bound-in-limits-requires
-    append-requires-3
+    (λ c κs. search needs)
+    (λ c κs. search needs)
     returns-2
     returns-3
     returns-4

@@ -6,12 +6,6 @@ use Rattle.edge_stripes.proofs.WrittenStripes.{added-kept}
 use Rattle.edge_stripes.proofs.carry_out.Statement.{statement}
 use Rattle.edge_stripes.proofs.carry_out.Tie as tie
 
-append-added-requires : tie.Need-append-added-requires
-append-added-requires c κs = search needs
-
-append-all-requires : tie.Need-append-all-requires
-append-all-requires c κs = search needs
-
 returns : tie.Need-returns
 returns c =
     let a = c .before .before .before .before .args in
@@ -19,4 +13,4 @@ returns c =
     (added-kept (a .p .added) (keptOf (a .p .kept) (stripesOf (a .stripes .now) (a .n))) (c .before .before .append-added .ensures .0) (rest .0), rest .0 .sized, rest .1)
 
 pub carry-out-spec : {M : Type 1} → statement M
-carry-out-spec = tie.close (tie.spec append-added-requires append-all-requires returns)
+carry-out-spec = tie.close (tie.spec (λ c κs. search needs) (λ c κs. search needs) returns)

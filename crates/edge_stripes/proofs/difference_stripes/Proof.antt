@@ -7,12 +7,6 @@ use Rattle.facts.specs.Known.{Small}
 use Rattle.edge_stripes.proofs.difference_stripes.Statement.{statement}
 use Rattle.edge_stripes.proofs.difference_stripes.Tie as tie
 
-enum-known-o : tie.Need-enum-known-o
-enum-known-o c = search needs
-
-dropped-requires : tie.Need-dropped-requires
-dropped-requires c κs = search needs
-
 returns : tie.Need-returns
 returns c = rw (c .before .before .before .o .given .1, c .before .if1 .taken) (c .dropped .ensures)
 
@@ -24,15 +18,6 @@ stripe-requires c κs =
 one-and-dropped-requires : tie.Need-one-and-dropped-requires
 one-and-dropped-requires c κs = (subst (Small greatestBound) (sym (c .stripe .ensures)) (record { plus = omega arith; minus = omega arith }), omega arith)
 
-enum-known-o-2 : tie.Need-enum-known-o-2
-enum-known-o-2 c = search needs
-
-cast-by-number : tie.Need-cast-by-number
-cast-by-number c = search needs
-
-by-number-requires : tie.Need-by-number-requires
-by-number-requires c κs = search needs
-
 returns-2 : tie.Need-returns-2
 returns-2 c = rw (c .before .before .before .before .o .given .1, c .before .before .if1 .left) (rw (c .before .stripe .ensures) at (c .one-and-dropped .ensures))
 
@@ -43,13 +28,13 @@ pub difference-stripes-spec : {M : Type 1} → statement M
 difference-stripes-spec =
     tie.close
     (tie.spec
-    enum-known-o
-    dropped-requires
+    (λ c. search needs)
+    (λ c κs. search needs)
     returns
     stripe-requires
     one-and-dropped-requires
-    enum-known-o-2
-    cast-by-number
-    by-number-requires
+    (λ c. search needs)
+    (λ c. search needs)
+    (λ c κs. search needs)
     returns-2
     returns-3)

@@ -7,9 +7,6 @@ use Rattle.facts.specs.Known.{Small}
 use Rattle.edge_stripes.proofs.equal_stripes.Statement.{statement}
 use Rattle.edge_stripes.proofs.equal_stripes.Tie as tie
 
-enum-known-o : tie.Need-enum-known-o
-enum-known-o c = search needs
-
 apart-requires : tie.Need-apart-requires
 apart-requires c κs =
     let h = rw (c .before .o .given .1) at (c .before .before .before .pre .1) in
@@ -23,12 +20,6 @@ apart-requires-2 c κs =
 two-and-all-requires : tie.Need-two-and-all-requires
 two-and-all-requires c κs = (subst (Small greatestBound) (sym (c .before .apart .ensures)) (record { plus = omega arith; minus = omega arith }), subst (Small greatestBound) (sym (c .apart2 .ensures)) (record { plus = omega arith; minus = omega arith }))
 
-enum-known-o-2 : tie.Need-enum-known-o-2
-enum-known-o-2 c = search needs
-
-all-requires : tie.Need-all-requires
-all-requires c κs = search needs
-
 returns : tie.Need-returns
 returns c = rw (c .before .before .before .before .o .given .1) (rw (c .before .before .apart .ensures, c .before .apart2 .ensures) at (c .two-and-all .ensures))
 
@@ -39,11 +30,11 @@ pub equal-stripes-spec : {M : Type 1} → statement M
 equal-stripes-spec =
     tie.close
     (tie.spec
-    enum-known-o
+    (λ c. search needs)
     apart-requires
     apart-requires-2
     two-and-all-requires
-    enum-known-o-2
-    all-requires
+    (λ c. search needs)
+    (λ c κs. search needs)
     returns
     returns-2)

@@ -6,15 +6,6 @@ use Rattle.edge_stripes.proofs.matched_stripes.Tie as tie
 enum-told : tie.Need-enum-told
 enum-told c = search needs
 
-all-requires : tie.Need-all-requires
-all-requires c κs = search needs
-
-enum-known-e : tie.Need-enum-known-e
-enum-known-e c = search needs
-
-equal-stripes-requires : tie.Need-equal-stripes-requires
-equal-stripes-requires c κs = search needs
-
 returns : tie.Need-returns
 returns c = rw (c .before .enum-told .given .1) (c .all .ensures)
 
@@ -24,4 +15,4 @@ returns-2 c = rw (c .before .before .e .given .1) (c .equal-stripes .ensures)
 pub matched-stripes-spec : {M : Type 1} → statement M
 matched-stripes-spec =
     tie.close
-    (tie.spec enum-told all-requires enum-known-e equal-stripes-requires returns returns-2)
+    (tie.spec enum-told (λ c κs. search needs) (λ c. search needs) (λ c κs. search needs) returns returns-2)

@@ -6,15 +6,6 @@ use Rattle.edge_stripes.proofs.ordered_stripes.Tie as tie
 enum-told : tie.Need-enum-told
 enum-told c = search needs
 
-not-less-stripes-requires : tie.Need-not-less-stripes-requires
-not-less-stripes-requires c κs = search needs
-
-enum-known-e : tie.Need-enum-known-e
-enum-known-e c = search needs
-
-less-stripes-requires : tie.Need-less-stripes-requires
-less-stripes-requires c κs = search needs
-
 returns : tie.Need-returns
 returns c = rw (c .before .enum-told .given .1) (c .not-less-stripes .ensures)
 
@@ -26,8 +17,8 @@ ordered-stripes-spec =
     tie.close
     (tie.spec
     enum-told
-    not-less-stripes-requires
-    enum-known-e
-    less-stripes-requires
+    (λ c κs. search needs)
+    (λ c. search needs)
+    (λ c κs. search needs)
     returns
     returns-2)

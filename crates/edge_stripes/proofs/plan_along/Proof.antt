@@ -13,35 +13,20 @@ use Rattle.edge_stripes.proofs.plan_along.Tie as tie
 enum-told : tie.Need-enum-told
 enum-told c = search needs
 
-all-requires : tie.Need-all-requires
-all-requires c κs = search needs
-
-enum-known-i : tie.Need-enum-known-i
-enum-known-i c = search needs
-
 dropped-requires : tie.Need-dropped-requires
 dropped-requires c κs =
     let h = rw (c .before .i .given .1) at (c .before .before .before .pre .1) in
     omega arith
-
-enum-known-i-2 : tie.Need-enum-known-i-2
-enum-known-i-2 c = search needs
 
 copy-stripes-requires : tie.Need-copy-stripes-requires
 copy-stripes-requires c κs =
     let h = rw (c .before .i2 .given .1) at (c .before .before .before .pre .1) in
     omega arith
 
-enum-known-i-3 : tie.Need-enum-known-i-3
-enum-known-i-3 c = search needs
-
 ranges-at-requires : tie.Need-ranges-at-requires
 ranges-at-requires c κs =
     let h = rw (c .before .i3 .given .1) at (c .before .before .before .pre .1) in
     (c .before .before .before .pre .0, (h .variable, h .operand))
-
-sum-fits-requires : tie.Need-sum-fits-requires
-sum-fits-requires c κs = search needs
 
 sum-stripes-requires : tie.Need-sum-stripes-requires
 sum-stripes-requires c κs = rw (c .before .before .before .i3 .given .1) at (c .before .before .before .before .before .pre .1)
@@ -51,16 +36,10 @@ if-fits-requires c κs =
     let h = rw (c .before .before .before .before .i3 .given .1) at (c .before .before .before .before .before .before .pre .1) in
     omega arith
 
-enum-known-i-4 : tie.Need-enum-known-i-4
-enum-known-i-4 c = search needs
-
 ranges-at-requires-2 : tie.Need-ranges-at-requires-2
 ranges-at-requires-2 c κs =
     let h = rw (c .before .i4 .given .1) at (c .before .before .before .pre .1) in
     (c .before .before .before .pre .0, (h .variable, h .operand))
-
-difference-fits-requires : tie.Need-difference-fits-requires
-difference-fits-requires c κs = search needs
 
 difference-stripes-requires : tie.Need-difference-stripes-requires
 difference-stripes-requires c κs = rw (c .before .before .before .i4 .given .1) at (c .before .before .before .before .before .pre .1)
@@ -70,16 +49,10 @@ if-fits-requires-2 c κs =
     let h = rw (c .before .before .before .before .i4 .given .1) at (c .before .before .before .before .before .before .pre .1) in
     omega arith
 
-enum-known-i-5 : tie.Need-enum-known-i-5
-enum-known-i-5 c = search needs
-
 ranges-at-requires-3 : tie.Need-ranges-at-requires-3
 ranges-at-requires-3 c κs =
     let h = rw (c .before .i5 .given .1) at (c .before .before .before .pre .1) in
     (c .before .before .before .pre .0, (h .variable, h .operand))
-
-product-fits-requires : tie.Need-product-fits-requires
-product-fits-requires c κs = search needs
 
 product-stripes-requires : tie.Need-product-stripes-requires
 product-stripes-requires c κs = rw (c .before .before .before .i5 .given .1) at (c .before .before .before .before .before .pre .1)
@@ -89,44 +62,20 @@ if-fits-requires-3 c κs =
     let h = rw (c .before .before .before .before .i5 .given .1) at (c .before .before .before .before .before .before .pre .1) in
     omega arith
 
-enum-known-i-6 : tie.Need-enum-known-i-6
-enum-known-i-6 c = search needs
-
 dropped-requires-2 : tie.Need-dropped-requires-2
 dropped-requires-2 c κs =
     let h = rw (c .before .i6 .given .1) at (c .before .before .before .pre .1) in
     omega arith
-
-enum-known-i-7 : tie.Need-enum-known-i-7
-enum-known-i-7 c = search needs
 
 dropped-requires-3 : tie.Need-dropped-requires-3
 dropped-requires-3 c κs =
     let h = rw (c .before .i7 .given .1) at (c .before .before .before .pre .1) in
     omega arith
 
-enum-known-i-8 : tie.Need-enum-known-i-8
-enum-known-i-8 c = search needs
-
-all-requires-2 : tie.Need-all-requires-2
-all-requires-2 c κs = search needs
-
-enum-known-i-9 : tie.Need-enum-known-i-9
-enum-known-i-9 c = search needs
-
-all-requires-3 : tie.Need-all-requires-3
-all-requires-3 c κs = search needs
-
-enum-known-i-10 : tie.Need-enum-known-i-10
-enum-known-i-10 c = search needs
-
 ordered-stripes-requires : tie.Need-ordered-stripes-requires
 ordered-stripes-requires c κs =
     let h = rw (c .before .i10 .given .1) at (c .before .before .before .pre .1) in
     (h .variable, h .operand)
-
-enum-known-i-11 : tie.Need-enum-known-i-11
-enum-known-i-11 c = search needs
 
 matched-stripes-requires : tie.Need-matched-stripes-requires
 matched-stripes-requires c κs =
@@ -194,37 +143,37 @@ plan-along-spec =
     tie.close
     (tie.spec
     enum-told
-    all-requires
-    enum-known-i
+    (λ c κs. search needs)
+    (λ c. search needs)
     dropped-requires
-    enum-known-i-2
+    (λ c. search needs)
     copy-stripes-requires
-    enum-known-i-3
+    (λ c. search needs)
     ranges-at-requires
-    sum-fits-requires
+    (λ c κs. search needs)
     sum-stripes-requires
     if-fits-requires
-    enum-known-i-4
+    (λ c. search needs)
     ranges-at-requires-2
-    difference-fits-requires
+    (λ c κs. search needs)
     difference-stripes-requires
     if-fits-requires-2
-    enum-known-i-5
+    (λ c. search needs)
     ranges-at-requires-3
-    product-fits-requires
+    (λ c κs. search needs)
     product-stripes-requires
     if-fits-requires-3
-    enum-known-i-6
+    (λ c. search needs)
     dropped-requires-2
-    enum-known-i-7
+    (λ c. search needs)
     dropped-requires-3
-    enum-known-i-8
-    all-requires-2
-    enum-known-i-9
-    all-requires-3
-    enum-known-i-10
+    (λ c. search needs)
+    (λ c κs. search needs)
+    (λ c. search needs)
+    (λ c κs. search needs)
+    (λ c. search needs)
     ordered-stripes-requires
-    enum-known-i-11
+    (λ c. search needs)
     matched-stripes-requires
     returns
     returns-2

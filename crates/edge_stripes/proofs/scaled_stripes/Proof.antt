@@ -11,26 +11,17 @@ use Rattle.facts.specs.Known.{Small}
 use Rattle.edge_stripes.proofs.scaled_stripes.Statement.{statement}
 use Rattle.edge_stripes.proofs.scaled_stripes.Tie as tie
 
-cast-if1 : tie.Need-cast-if1
-cast-if1 c = search needs
-
 cast-stripe : tie.Need-cast-stripe
 cast-stripe c =
     let a = c .before .args in
     let scale = and-left (leb 1 (a .c) && leb (a .c) greatestScale) (not (eqb (a .d) (a .i))) (c .if1 .taken) in
     omega (arith, leb-true (a .c) greatestScale (and-right (leb 1 (a .c)) (leb (a .c) greatestScale) scale))
 
-stripe-requires : tie.Need-stripe-requires
-stripe-requires c κs = search needs
-
 one-and-dropped-requires : tie.Need-one-and-dropped-requires
 one-and-dropped-requires c κs = (subst (Small greatestBound) (sym (c .stripe .ensures)) (record { plus = omega arith; minus = omega arith }), omega arith)
 
 returns : tie.Need-returns
 returns c = rw (c .before .before .if1 .taken) (rw (c .before .stripe .ensures) at (c .one-and-dropped .ensures))
-
-dropped-requires : tie.Need-dropped-requires
-dropped-requires c κs = search needs
 
 returns-2 : tie.Need-returns-2
 returns-2 c = rw (c .before .if1 .left) (c .dropped .ensures)
@@ -39,10 +30,10 @@ pub scaled-stripes-spec : {M : Type 1} → statement M
 scaled-stripes-spec =
     tie.close
     (tie.spec
-    cast-if1
+    (λ c. search needs)
     cast-stripe
-    stripe-requires
+    (λ c κs. search needs)
     one-and-dropped-requires
     returns
-    dropped-requires
+    (λ c κs. search needs)
     returns-2)

@@ -4,14 +4,8 @@ use borrow.Author.Needs.{needs}
 use Rattle.exports.proofs.rithwellu_check.Statement.{statement}
 use Rattle.exports.proofs.rithwellu_check.Tie as tie
 
-check-requires : tie.Need-check-requires
-check-requires c κs = search needs
-
-verdict-numbers-requires : tie.Need-verdict-numbers-requires
-verdict-numbers-requires c κs = search needs
-
 returns : tie.Need-returns
 returns c = c .verdict-numbers .ensures ∙ ap answerOf (c .before .check .ensures)
 
 pub rithwellu-check-spec : {M : Type 1} → statement M
-rithwellu-check-spec = tie.close (tie.spec check-requires verdict-numbers-requires returns)
+rithwellu-check-spec = tie.close (tie.spec (λ c κs. search needs) (λ c κs. search needs) returns)

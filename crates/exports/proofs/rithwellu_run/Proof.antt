@@ -5,15 +5,6 @@ use borrow.Author.Needs.{needs}
 use Rattle.exports.proofs.rithwellu_run.Statement.{statement}
 use Rattle.exports.proofs.rithwellu_run.Tie as tie
 
-run-requires : tie.Need-run-requires
-run-requires c κs = search needs
-
-run-numbers-requires : tie.Need-run-numbers-requires
-run-numbers-requires c κs = search needs
-
-same-length : tie.Need-same-length
-same-length c = search needs
-
 returns : tie.Need-returns
 returns c =
     let r = c .before .before .before .before .before .run .ensures in
@@ -24,4 +15,4 @@ returns c =
     }
 
 pub rithwellu-run-spec : {M : Type 1} → statement M
-rithwellu-run-spec = tie.close (tie.spec run-requires run-numbers-requires same-length returns)
+rithwellu-run-spec = tie.close (tie.spec (λ c κs. search needs) (λ c κs. search needs) (λ c. search needs) returns)

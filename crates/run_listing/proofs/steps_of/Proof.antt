@@ -5,12 +5,6 @@ use Rattle.run_listing.specs.Program.{stepsOf}
 use Rattle.run_listing.proofs.steps_of.Statement.{statement}
 use Rattle.run_listing.proofs.steps_of.Tie as tie
 
-parse-requires : tie.Need-parse-requires
-parse-requires c κs = search needs
-
-enum-known-n : tie.Need-enum-known-n
-enum-known-n c = search needs
-
 enum-told : tie.Need-enum-told
 enum-told c = search needs
 
@@ -21,4 +15,4 @@ returns-2 : tie.Need-returns-2
 returns-2 c = sym (ap stepsOf (sym (c .before .before .parse .ensures) ∙ c .enum-told .given .1))
 
 pub steps-of-spec : {M : Type 1} → statement M
-steps-of-spec = tie.close (tie.spec parse-requires enum-known-n enum-told returns returns-2)
+steps-of-spec = tie.close (tie.spec (λ c κs. search needs) (λ c. search needs) enum-told returns returns-2)

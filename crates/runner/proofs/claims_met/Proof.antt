@@ -7,11 +7,8 @@ use Rattle.runner.proofs.claims_met.Tie as tie
 facts-at-requires : tie.Need-facts-at-requires
 facts-at-requires c κs = (c .before .before .before .before .before .pre .1, none-standing)
 
-meets-requires : tie.Need-meets-requires
-meets-requires c κs = search needs
-
 returns : tie.Need-returns
 returns c = rw (c .meets .ensures, c .before .before .before .before .facts-at .ensures .0)
 
 pub claims-met-spec : {M : Type 1} → statement M
-claims-met-spec = tie.close (tie.spec facts-at-requires meets-requires returns)
+claims-met-spec = tie.close (tie.spec facts-at-requires (λ c κs. search needs) returns)

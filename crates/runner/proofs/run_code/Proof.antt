@@ -27,9 +27,6 @@ words-requires c κs =
     let s = c .before .before .before .before in
     met (pointsOf (listingOf (s .args .listing .now))) (state (s .args .start) (s .args .registers)) (sizesOf (lent (s .args .trays .now) (s .args .results .now))) (s .pre .1 .1) .fit
 
-values-of-requires : tie.Need-values-of-requires Inv-loop μ-loop
-values-of-requires c κs = search needs
-
 loop-holds : tie.Need-loop-holds Inv-loop μ-loop
 loop-holds c =
     let s = c .before .before .before .before .before .before in
@@ -45,9 +42,6 @@ is-stop-requires c κs =
     let i = c .loop .inv .good .exists in
     omega arith
 
-ended-requires : tie.Need-ended-requires Inv-loop μ-loop
-ended-requires c κs = search needs
-
 same-length : tie.Need-same-length Inv-loop μ-loop
 same-length c = ap (λ (l : List ℕ). getD l 1 0) (c .before .before .before .loop .inv .good .typed .tables .size)
 
@@ -62,9 +56,6 @@ returns c =
     let e = stopped-here _ _ _ _ (passes _ (s .pre .0)) (l .loop .inv) _ (s .pre .1 .0 .each _ (l .loop .inv .good .exists)) (sym (c .before .before .is-stop .ensures) ∙ c .before .if1 .taken) in
     let r = ran-to (s .args .listing .now) x t (s .args .budget) (s .pre .0) (s .pre .1 .1) _ (start-is x _ t sixteen first) _ _ e in
     record { outcome = c .ended .ensures ∙ r .outcome; results = r .results }
-
-ended-requires-2 : tie.Need-ended-requires-2 Inv-loop μ-loop
-ended-requires-2 c κs = search needs
 
 same-length-2 : tie.Need-same-length-2 Inv-loop μ-loop
 same-length-2 c = ap (λ (l : List ℕ). getD l 1 0) (c .before .before .before .before .loop .inv .good .typed .tables .size)
@@ -127,13 +118,13 @@ run-code-spec =
     Inv-loop
     μ-loop
     words-requires
-    values-of-requires
+    (λ c κs. search needs)
     loop-holds
     is-stop-requires
-    ended-requires
+    (λ c κs. search needs)
     same-length
     returns
-    ended-requires-2
+    (λ c κs. search needs)
     same-length-2
     returns-2
     instruction-at-requires

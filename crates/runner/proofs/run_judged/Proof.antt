@@ -7,12 +7,6 @@ use borrow.Author.Needs.{needs}
 use Rattle.runner.proofs.run_judged.Statement.{statement}
 use Rattle.runner.proofs.run_judged.Tie as tie
 
-enum-known-j : tie.Need-enum-known-j
-enum-known-j c = search needs
-
-turned-back-requires : tie.Need-turned-back-requires
-turned-back-requires c κs = search needs
-
 enum-told : tie.Need-enum-told
 enum-told c = search needs
 
@@ -27,20 +21,14 @@ returns c =
     let r = state-refused (s .args .listing .now) (state (s .args .start) (s .args .registers)) (lent (s .args .trays .now) (s .args .results .now)) (s .args .budget) (s .pre .0) _ (sym (s .pre .1 .1) ∙ c .before .before .j .given .1) in
     record { outcome = c .turned-back .ensures ∙ r .outcome; results = r .results }
 
-same-length : tie.Need-same-length
-same-length c = search needs
-
-returns-2 : tie.Need-returns-2
-returns-2 c = search needs
-
 pub run-judged-spec : {M : Type 1} → statement M
 run-judged-spec =
     tie.close
     (tie.spec
-    enum-known-j
-    turned-back-requires
+    (λ c. search needs)
+    (λ c κs. search needs)
     enum-told
     run-code-requires
     returns
-    same-length
-    returns-2)
+    (λ c. search needs)
+    (λ c. search needs))

@@ -9,9 +9,6 @@ use borrow.Author.Needs.{needs}
 use Rattle.runner.proofs.state_judged.Statement.{statement}
 use Rattle.runner.proofs.state_judged.Tie as tie
 
-all-fit-requires : tie.Need-all-fit-requires
-all-fit-requires c κs = search needs
-
 returns : tie.Need-returns
 returns c =
     let a = c .before .before .before .before .args in
@@ -24,9 +21,6 @@ returns-2 c =
 
 words-requires : tie.Need-words-requires
 words-requires c κs = sym (c .before .before .all-fit .ensures) ∙ not-false _ (c .before .if1 .left)
-
-values-of-requires : tie.Need-values-of-requires
-values-of-requires c κs = search needs
 
 claims-met-requires : tie.Need-claims-met-requires
 claims-met-requires c κs = (search needs, c .before .before .before .before .before .before .before .before .pre .all .each _ (c .before .before .before .if2 .left))
@@ -49,11 +43,11 @@ pub state-judged-spec : {M : Type 1} → statement M
 state-judged-spec =
     tie.close
     (tie.spec
-    all-fit-requires
+    (λ c κs. search needs)
     returns
     returns-2
     words-requires
-    values-of-requires
+    (λ c κs. search needs)
     claims-met-requires
     returns-3
     returns-4)

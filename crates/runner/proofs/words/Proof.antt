@@ -4,14 +4,8 @@ use Rattle.runner.proofs.StateJudged.{size-small, two-sizes}
 use Rattle.runner.proofs.words.Statement.{statement}
 use Rattle.runner.proofs.words.Tie as tie
 
-array-read-t5 : tie.Need-array-read-t5
-array-read-t5 c = search needs
-
 cast-t6 : tie.Need-cast-t6
 cast-t6 c = let small = size-small (c .args .t1) 0 (c .pre) (search needs) in omega arith
-
-array-read-t9 : tie.Need-array-read-t9
-array-read-t9 c = search needs
 
 cast-t10 : tie.Need-cast-t10
 cast-t10 c = let small = size-small (c .args .t1) 1 (c .pre) (search needs) in omega arith
@@ -20,4 +14,4 @@ returns : tie.Need-returns
 returns c = two-sizes (c .args .t1) (search needs)
 
 pub words-spec : {M : Type 1} → statement M
-words-spec = tie.close (tie.spec array-read-t5 cast-t6 array-read-t9 cast-t10 returns)
+words-spec = tie.close (tie.spec (λ c. search needs) cast-t6 (λ c. search needs) cast-t10 returns)

@@ -17,12 +17,6 @@ claims-of-requires c κs = let q = c .before .before .before .pre .0 (not-false 
 returns-2 : tie.Need-returns-2
 returns-2 c = (rw (not-false (c .before .before .before .before .before .args .there) (c .before .before .if1 .left)) (edge-none (c .before .before .before .before .before .args .line) (c .before .before .before .before .before .args .rows .now) (c .before .before .before .before .before .args .at .now) (c .before .before .before .before .before .args .t) _ (sym (c .before .claims-of .ensures) ∙ c .if2 .taken)), c .before .before .before .before .before .pre .1 .1 .1)
 
-along-requires : tie.Need-along-requires
-along-requires c κs = search needs
-
-is-possible-requires : tie.Need-is-possible-requires
-is-possible-requires c κs = search needs
-
 returns-3 : tie.Need-returns-3
 returns-3 c =
     let a = c .before .before .before .before .before .before .before .before .before .before .before .before .before .args in
@@ -66,8 +60,8 @@ edge-judged-spec =
     returns
     claims-of-requires
     returns-2
-    along-requires
-    is-possible-requires
+    (λ c κs. search needs)
+    (λ c κs. search needs)
     returns-3
     first-of-requires
     lost-among-requires

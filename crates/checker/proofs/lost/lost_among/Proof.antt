@@ -39,12 +39,6 @@ returns c f laid =
     let l = c .before .before .before .before .loop in
     lost-first (a .rows .now) f (a .from) (l .j) (c .before .before .claim-at .result) (c .before .before .claim-at .ensures) (l .inv .1 f laid) (a .n) (c .before .before .before .loop-test .taken) (sym (c .before .claim-follows .ensures f laid) ∙ not-true _ (c .if1 .taken))
 
-add-j : tie.Need-add-j Inv-loop μ-loop
-add-j c = omega arith
-
-loop-less : tie.Need-loop-less Inv-loop μ-loop
-loop-less c = omega arith
-
 loop-again : tie.Need-loop-again Inv-loop μ-loop
 loop-again c =
     let a = c .before .before .before .before .before .before .args in
@@ -71,7 +65,7 @@ lost-among-spec =
     claim-follows-requires
     add-result
     returns
-    add-j
-    loop-less
+    (λ c. omega arith)
+    (λ c. omega arith)
     loop-again
     returns-2)

@@ -14,9 +14,6 @@ use Rattle.checker.proofs.points.point_judged.Tie as tie
 instruction-row-requires : tie.Need-instruction-row-requires
 instruction-row-requires c κs = c .before .before .pre .0 .0 .all .each _ (c .before .before .pre .0 .1)
 
-instruction-from-requires : tie.Need-instruction-from-requires
-instruction-from-requires c κs = search needs
-
 line-of-requires : tie.Need-line-of-requires
 line-of-requires c κs = let q = c .before .before .before .before .pre .0 .0 .all .each _ (c .before .before .before .before .pre .0 .1) in (q .places, q .few)
 
@@ -28,9 +25,6 @@ safety-judged-requires c κs =
     let q = c .before .before .before .before .before .before .before .before .before .before .before .before .pre .0 .0 .all .each _ (c .before .before .before .before .before .before .before .before .before .before .before .before .pre .0 .1) in
     (c .before .before .before .facts-at .ensures .1, rw (c .before .before .before .before .before .before .before .before .instruction-from .ensures, c .before .before .before .before .before .before .before .before .before .instruction-row .ensures) (q .point .limited))
 
-is-refused-requires : tie.Need-is-refused-requires
-is-refused-requires c κs = search needs
-
 returns : tie.Need-returns
 returns c =
     let h = c .before .before .before .before .before .before .before .before .before .before .before .before .before .before .before .pre .0 in
@@ -38,12 +32,6 @@ returns c =
       by-safety _ _ _ _ (h .0) (h .1) _ _ _ (c .before .before .before .before .before .before .before .before .before .before .line-of .ensures) (c .before .before .before .before .before .before .facts-at .ensures .0) i _ (c .before .before .safety-judged .ensures) (sym (c .before .is-refused .ensures) ∙ c .if1 .taken),
       (none-stand _ _ (c .before .before .before .before .before .before .facts-at .ensures .1 .stripes), c .before .before .before .before .before .before .before .before .before .before .before .before .before .before .before .pre .1 .1),
     )
-
-goes-on-requires : tie.Need-goes-on-requires
-goes-on-requires c κs = search needs
-
-add-edge-judged : tie.Need-add-edge-judged
-add-edge-judged c = search needs
 
 edge-judged-requires : tie.Need-edge-judged-requires
 edge-judged-requires c κs =
@@ -54,9 +42,6 @@ edge-judged-requires c κs =
       (c .before .before .before .before .before .before .before .before .before .before .before .facts-at .ensures .1, (rw i (q .point .limited), c .before .before .before .before .before .before .before .before .before .before .before .before .before .before .before .before .before .before .before .before .pre .1 .1)),
     )
 
-is-refused-requires-2 : tie.Need-is-refused-requires-2
-is-refused-requires-2 c κs = search needs
-
 returns-2 : tie.Need-returns-2
 returns-2 c =
     let h = c .before .before .before .before .before .before .before .before .before .before .before .before .before .before .before .before .before .before .before .before .before .before .before .pre .0 in
@@ -64,9 +49,6 @@ returns-2 c =
       by-next _ _ _ _ (h .0) (h .1) _ _ _ (c .before .before .before .before .before .before .before .before .before .before .before .before .before .before .before .before .before .before .line-of .ensures) (c .before .before .before .before .before .before .before .before .before .before .before .before .before .before .facts-at .ensures .0) i _ (c .before .before .before .before .before .before .before .before .before .before .safety-judged .ensures) (sym (c .before .before .before .before .before .before .before .before .before .is-refused .ensures) ∙ c .before .before .before .before .before .before .before .before .if1 .left) _ (c .before .before .before .before .before .before .before .goes-on .ensures) _ (c .before .before .edge-judged .ensures .0) (sym (c .before .is-refused2 .ensures) ∙ c .if2 .taken),
       (none-stand _ _ (c .before .before .before .before .before .before .before .before .before .before .before .before .before .before .facts-at .ensures .1 .stripes), c .before .before .edge-judged .ensures .1),
     )
-
-has-target-requires : tie.Need-has-target-requires
-has-target-requires c κs = search needs
 
 returns-3 : tie.Need-returns-3
 returns-3 c =
@@ -103,18 +85,18 @@ point-judged-spec =
     tie.close
     (tie.spec
     instruction-row-requires
-    instruction-from-requires
+    (λ c κs. search needs)
     line-of-requires
     facts-at-requires
     safety-judged-requires
-    is-refused-requires
+    (λ c κs. search needs)
     returns
-    goes-on-requires
-    add-edge-judged
+    (λ c κs. search needs)
+    (λ c. search needs)
     edge-judged-requires
-    is-refused-requires-2
+    (λ c κs. search needs)
     returns-2
-    has-target-requires
+    (λ c κs. search needs)
     returns-3
     facts-at-requires-2
     edge-judged-requires-2

@@ -29,17 +29,11 @@ loop-holds c = (omega arith, points-none _, none-standing, zeros (edgeStripes * 
 point-judged-requires : tie.Need-point-judged-requires Inv-loop μ-loop
 point-judged-requires c κs = let l = c .before .before .before .before .before .loop in ((c .before .before .before .before .before .before .before .before .pre, c .before .before .before .before .loop-test .taken), (l .inv .2, l .inv .3))
 
-is-refused-requires : tie.Need-is-refused-requires Inv-loop μ-loop
-is-refused-requires c κs = search needs
-
 returns : tie.Need-returns Inv-loop μ-loop
 returns c = refused-all _ _ _ _ (c .before .before .before .before .before .before .before .loop-test .taken) _ (c .before .before .before .before .before .before .before .before .loop .inv .1) (c .before .before .point-judged .ensures .0) (sym (c .before .is-refused .ensures) ∙ c .if1 .taken)
 
 add-p : tie.Need-add-p Inv-loop μ-loop
 add-p c = let t = c .before .before .before .before .before .before .before .loop-test .taken in let few = c .before .before .before .before .before .before .before .before .before .before .before .pre .all .few in omega arith
-
-loop-less : tie.Need-loop-less Inv-loop μ-loop
-loop-less c = omega arith
 
 loop-again : tie.Need-loop-again Inv-loop μ-loop
 loop-again c =
@@ -60,9 +54,9 @@ points-judged-spec =
     μ-loop
     loop-holds
     point-judged-requires
-    is-refused-requires
+    (λ c κs. search needs)
     returns
     add-p
-    loop-less
+    (λ c. omega arith)
     loop-again
     returns-2)

@@ -3,9 +3,6 @@ use borrow.Author.Needs.{needs}
 use Rattle.checker.proofs.safety.access_judged.Statement.{statement}
 use Rattle.checker.proofs.safety.access_judged.Tie as tie
 
-access-safe-requires : tie.Need-access-safe-requires
-access-safe-requires c κs = search needs
-
 returns : tie.Need-returns
 returns c = rw (← c .before .access-safe .ensures, c .if1 .taken)
 
@@ -16,6 +13,6 @@ pub access-judged-spec : {M : Type 1} → statement M
 access-judged-spec =
     tie.close
     (tie.spec
-    access-safe-requires
+    (λ c κs. search needs)
     returns
     returns-2)

@@ -9,9 +9,6 @@ safe-by-ranges-requires c κs = (c .pre .0 .ends, c .pre .1)
 returns : tie.Need-returns
 returns c = rw (← c .before .safe-by-ranges .ensures, c .if1 .taken)
 
-safe-by-goal-requires : tie.Need-safe-by-goal-requires
-safe-by-goal-requires c κs = search needs
-
 returns-2 : tie.Need-returns-2
 returns-2 c = rw (← c .before .before .safe-by-ranges .ensures, c .before .if1 .left) (c .safe-by-goal .ensures)
 
@@ -21,5 +18,5 @@ access-safe-spec =
     (tie.spec
     safe-by-ranges-requires
     returns
-    safe-by-goal-requires
+    (λ c κs. search needs)
     returns-2)

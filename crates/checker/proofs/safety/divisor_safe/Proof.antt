@@ -6,17 +6,11 @@ use Rattle.facts.proofs.PointArrays.{ends-even}
 use Rattle.checker.proofs.safety.divisor_safe.Statement.{statement}
 use Rattle.checker.proofs.safety.divisor_safe.Tie as tie
 
-enum-known-o : tie.Need-enum-known-o
-enum-known-o c = search needs
-
 mul-result : tie.Need-mul-result
 mul-result c = let h = rw (c .before .o .given .1) at (c .before .before .before .pre .1) in omega arith
 
 element-copy-out-result : tie.Need-element-copy-out-result
 element-copy-out-result c = let h = rw (c .before .o .given .1) at (c .before .before .before .pre .1) in omega arith
-
-enum-known-o-2 : tie.Need-enum-known-o-2
-enum-known-o-2 c = search needs
 
 returns : tie.Need-returns
 returns c = rw (c .before .before .o .given .1, low-held _ _ (c .before .before .o .given .0 .0) (ends-even _ _ (c .before .before .before .before .pre .0)))
@@ -28,9 +22,9 @@ pub divisor-safe-spec : {M : Type 1} → statement M
 divisor-safe-spec =
     tie.close
     (tie.spec
-    enum-known-o
+    (λ c. search needs)
     mul-result
     element-copy-out-result
-    enum-known-o-2
+    (λ c. search needs)
     returns
     returns-2)

@@ -8,24 +8,6 @@ use Rattle.checker.proofs.AccessNumbers.{access-goal}
 use Rattle.checker.proofs.safety.safe_by_goal.Statement.{statement}
 use Rattle.checker.proofs.safety.safe_by_goal.Tie as tie
 
-size-variable-requires : tie.Need-size-variable-requires
-size-variable-requires c κs = search needs
-
-bytes-requires : tie.Need-bytes-requires
-bytes-requires c κs = search needs
-
-cast-t14 : tie.Need-cast-t14
-cast-t14 c = search needs
-
-cast-t15 : tie.Need-cast-t15
-cast-t15 c = search needs
-
-cast-t16 : tie.Need-cast-t16
-cast-t16 c = search needs
-
-add-t18 : tie.Need-add-t18
-add-t18 c = search needs
-
 goal-follows-requires : tie.Need-goal-follows-requires
 goal-follows-requires c κs = (point-sized _ _ _ _ (c .before .before .pre .0), record { plus = omega arith; minus = omega arith })
 
@@ -40,11 +22,11 @@ pub safe-by-goal-spec : {M : Type 1} → statement M
 safe-by-goal-spec =
     tie.close
     (tie.spec
-    size-variable-requires
-    bytes-requires
-    cast-t14
-    cast-t15
-    cast-t16
-    add-t18
+    (λ c κs. search needs)
+    (λ c κs. search needs)
+    (λ c. search needs)
+    (λ c. search needs)
+    (λ c. search needs)
+    (λ c. search needs)
     goal-follows-requires
     returns)

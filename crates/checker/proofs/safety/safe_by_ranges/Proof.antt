@@ -9,27 +9,6 @@ use Rattle.checker.proofs.AccessNumbers.{access-ranges}
 use Rattle.checker.proofs.safety.safe_by_ranges.Statement.{statement}
 use Rattle.checker.proofs.safety.safe_by_ranges.Tie as tie
 
-mul-top : tie.Need-mul-top
-mul-top c = search needs
-
-element-copy-out-top : tie.Need-element-copy-out-top
-element-copy-out-top c = search needs
-
-size-variable-requires : tie.Need-size-variable-requires
-size-variable-requires c κs = search needs
-
-cast-size : tie.Need-cast-size
-cast-size c = search needs
-
-mul-size : tie.Need-mul-size
-mul-size c = search needs
-
-element-copy-out-size : tie.Need-element-copy-out-size
-element-copy-out-size c = search needs
-
-bytes-requires : tie.Need-bytes-requires
-bytes-requires c κs = search needs
-
 mul-result : tie.Need-mul-result
 mul-result c = let start = c .before .before .before .before in omega (arith, mul-le-mul (start .pre .1 .scale) (start .pre .0 .highs .most (start .args .access .i) (start .pre .1 .variable)))
 
@@ -51,13 +30,13 @@ pub safe-by-ranges-spec : {M : Type 1} → statement M
 safe-by-ranges-spec =
     tie.close
     (tie.spec
-    mul-top
-    element-copy-out-top
-    size-variable-requires
-    cast-size
-    mul-size
-    element-copy-out-size
-    bytes-requires
+    (λ c. search needs)
+    (λ c. search needs)
+    (λ c κs. search needs)
+    (λ c. search needs)
+    (λ c. search needs)
+    (λ c. search needs)
+    (λ c κs. search needs)
     mul-result
     add-result
     add-result-2

@@ -9,53 +9,20 @@ use Rattle.checker.proofs.safety.safety_judged.Tie as tie
 enum-told : tie.Need-enum-told
 enum-told c = search needs
 
-enum-told-2 : tie.Need-enum-told-2
-enum-told-2 c = search needs
-
-enum-told-3 : tie.Need-enum-told-3
-enum-told-3 c = search needs
-
-enum-told-4 : tie.Need-enum-told-4
-enum-told-4 c = search needs
-
-enum-told-5 : tie.Need-enum-told-5
-enum-told-5 c = search needs
-
-enum-told-6 : tie.Need-enum-told-6
-enum-told-6 c = search needs
-
-enum-known-i : tie.Need-enum-known-i
-enum-known-i c = search needs
-
 divisor-judged-requires : tie.Need-divisor-judged-requires
 divisor-judged-requires c κs =
     let limited = subst Limited (c .before .i .given .1) (c .before .before .before .pre .1) in
     (c .before .before .before .pre .0, limited .operand)
-
-enum-known-i-2 : tie.Need-enum-known-i-2
-enum-known-i-2 c = search needs
 
 access-judged-requires : tie.Need-access-judged-requires
 access-judged-requires c κs =
     let limited = subst Limited (c .before .i2 .given .1) (c .before .before .before .pre .1) in
     (c .before .before .before .pre .0, limited .1)
 
-enum-known-i-3 : tie.Need-enum-known-i-3
-enum-known-i-3 c = search needs
-
 access-judged-requires-2 : tie.Need-access-judged-requires-2
 access-judged-requires-2 c κs =
     let limited = subst Limited (c .before .i3 .given .1) (c .before .before .before .pre .1) in
     (c .before .before .before .pre .0, limited .1)
-
-enum-told-7 : tie.Need-enum-told-7
-enum-told-7 c = search needs
-
-enum-told-8 : tie.Need-enum-told-8
-enum-told-8 c = search needs
-
-enum-told-9 : tie.Need-enum-told-9
-enum-told-9 c = search needs
 
 returns : tie.Need-returns
 unfolding safetyJudged
@@ -110,20 +77,20 @@ safety-judged-spec =
     tie.close
     (tie.spec
     enum-told
-    enum-told-2
-    enum-told-3
-    enum-told-4
-    enum-told-5
-    enum-told-6
-    enum-known-i
+    (λ c. search needs)
+    (λ c. search needs)
+    (λ c. search needs)
+    (λ c. search needs)
+    (λ c. search needs)
+    (λ c. search needs)
     divisor-judged-requires
-    enum-known-i-2
+    (λ c. search needs)
     access-judged-requires
-    enum-known-i-3
+    (λ c. search needs)
     access-judged-requires-2
-    enum-told-7
-    enum-told-8
-    enum-told-9
+    (λ c. search needs)
+    (λ c. search needs)
+    (λ c. search needs)
     returns
     returns-2
     returns-3

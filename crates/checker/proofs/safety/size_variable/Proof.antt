@@ -6,15 +6,6 @@ use Rattle.checker.proofs.safety.size_variable.Tie as tie
 enum-told : tie.Need-enum-told
 enum-told c = search needs
 
-cast-result : tie.Need-cast-result
-cast-result c = search needs
-
-enum-told-2 : tie.Need-enum-told-2
-enum-told-2 c = search needs
-
-cast-result-2 : tie.Need-cast-result-2
-cast-result-2 c = search needs
-
 returns : tie.Need-returns
 returns c = (rw (c .enum-told .given .1), omega arith)
 
@@ -23,4 +14,4 @@ returns-2 c = (rw (c .enum-told2 .given .1), omega arith)
 
 pub size-variable-spec : {M : Type 1} → statement M
 size-variable-spec =
-    tie.close (tie.spec enum-told cast-result enum-told-2 cast-result-2 returns returns-2)
+    tie.close (tie.spec enum-told (λ c. search needs) (λ c. search needs) (λ c. search needs) returns returns-2)

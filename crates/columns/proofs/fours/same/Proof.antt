@@ -5,12 +5,6 @@ use Rattle.columns.proofs.FourBytes.{joined-same}
 use Rattle.columns.proofs.fours.same.Statement.{statement}
 use Rattle.columns.proofs.fours.same.Tie as tie
 
-joined-requires : tie.Need-joined-requires
-joined-requires c κs = search needs
-
-joined-requires-2 : tie.Need-joined-requires-2
-joined-requires-2 c κs = search needs
-
 returns : tie.Need-returns
 returns c =
     let x = c .before .before .args in
@@ -18,4 +12,4 @@ returns c =
     (joined-same (x .a) (x .b) (x .c) (x .d) (x .e) (x .f) (x .g) (x .h) (omega arith) (omega arith) (omega arith) (omega arith) (omega arith) (omega arith))
 
 pub same-spec : {M : Type 1} → statement M
-same-spec = tie.close (tie.spec joined-requires joined-requires-2 returns)
+same-spec = tie.close (tie.spec (λ c κs. search needs) (λ c κs. search needs) returns)

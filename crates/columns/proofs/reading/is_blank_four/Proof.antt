@@ -6,30 +6,6 @@ use borrow.Author.Needs.{needs}
 use Rattle.columns.proofs.reading.is_blank_four.Statement.{statement}
 use Rattle.columns.proofs.reading.is_blank_four.Tie as tie
 
-shared-slice-read-same : tie.Need-shared-slice-read-same
-shared-slice-read-same c = search needs
-
-add-same : tie.Need-add-same
-add-same c = search needs
-
-shared-slice-read-same-2 : tie.Need-shared-slice-read-same-2
-shared-slice-read-same-2 c = search needs
-
-add-same-2 : tie.Need-add-same-2
-add-same-2 c = search needs
-
-shared-slice-read-same-3 : tie.Need-shared-slice-read-same-3
-shared-slice-read-same-3 c = search needs
-
-add-same-3 : tie.Need-add-same-3
-add-same-3 c = search needs
-
-shared-slice-read-same-4 : tie.Need-shared-slice-read-same-4
-shared-slice-read-same-4 c = search needs
-
-same-requires : tie.Need-same-requires
-same-requires c κs = search needs
-
 returns : tie.Need-returns
 returns c = λ h. blank-four _ _ _ (c .before .before .before .before .before .if1 .taken) (sym (c .same .ensures) ∙ h)
 
@@ -40,13 +16,13 @@ pub is-blank-four-spec : {M : Type 1} → statement M
 is-blank-four-spec =
     tie.close
     (tie.spec
-    shared-slice-read-same
-    add-same
-    shared-slice-read-same-2
-    add-same-2
-    shared-slice-read-same-3
-    add-same-3
-    shared-slice-read-same-4
-    same-requires
+    (λ c. search needs)
+    (λ c. search needs)
+    (λ c. search needs)
+    (λ c. search needs)
+    (λ c. search needs)
+    (λ c. search needs)
+    (λ c. search needs)
+    (λ c κs. search needs)
     returns
     returns-2)

@@ -20,15 +20,6 @@ abbrev μ-loop : tie.MeasureT-loop
 loop-holds : tie.Need-loop-holds Inv-loop μ-loop
 loop-holds c = (omega arith, c .before .pre .1 .0, c .before .pre .1 .1)
 
-add-b : tie.Need-add-b Inv-loop μ-loop
-add-b c = omega arith
-
-shared-slice-read-b : tie.Need-shared-slice-read-b Inv-loop μ-loop
-shared-slice-read-b c = omega arith
-
-is-digit-requires : tie.Need-is-digit-requires Inv-loop μ-loop
-is-digit-requires c κs = search needs
-
 mul-v : tie.Need-mul-v Inv-loop μ-loop
 mul-v c =
     let h : c .before .before .before .before .loop .v < 10 ^ 14 = rw (c .before .before .before .before .loop .inv .2) (digits-fit 14 _ _ (c .before .before .before .before .loop .j) (omega arith)) in
@@ -42,12 +33,6 @@ add-v c =
     let h : c .before .before .before .before .before .loop .v < 10 ^ 14 = rw (c .before .before .before .before .before .loop .inv .2) (digits-fit 14 _ _ (c .before .before .before .before .before .loop .j) (omega arith)) in
     let k : c .digit .result ≤ 9 = rw (c .digit .ensures) (digit-below _) in
     omega arith
-
-add-j : tie.Need-add-j Inv-loop μ-loop
-add-j c = omega arith
-
-loop-less : tie.Need-loop-less Inv-loop μ-loop
-loop-less c = omega arith
 
 loop-again : tie.Need-loop-again Inv-loop μ-loop
 loop-again c =
@@ -70,14 +55,14 @@ read-digits-spec =
     Inv-loop
     μ-loop
     loop-holds
-    add-b
-    shared-slice-read-b
-    is-digit-requires
+    (λ c. omega arith)
+    (λ c. omega arith)
+    (λ c κs. search needs)
     mul-v
     digit-requires
     add-v
-    add-j
-    loop-less
+    (λ c. omega arith)
+    (λ c. omega arith)
     loop-again
     returns
     returns-2

@@ -7,14 +7,8 @@ use borrow.Author.Needs.{needs}
 use Rattle.columns.proofs.reading.read_field.Statement.{statement}
 use Rattle.columns.proofs.reading.read_field.Tie as tie
 
-is-blank-four-requires : tie.Need-is-blank-four-requires
-is-blank-four-requires c κs = search needs
-
 returns : tie.Need-returns
 returns c = sym (c .before .is-blank-four .ensures (c .if1 .taken))
-
-skip-spaces-requires : tie.Need-skip-spaces-requires
-skip-spaces-requires c κs = search needs
 
 returns-2 : tie.Need-returns-2
 returns-2 c = sym (blank _ _ (c .before .skip-spaces .result) (c .before .before .before .before .before .args .n) (c .if2 .taken) (c .before .skip-spaces .ensures .0 .1))
@@ -25,16 +19,13 @@ read-filled-requires c κs =
     let h : c .before .skip-spaces .result < c .before .before .before .before .before .args .n = omega arith in
     ((omega arith, omega arith, h), (e, z, p h))
 
-returns-3 : tie.Need-returns-3
-returns-3 c = search needs
-
 pub read-field-spec : {M : Type 1} → statement M
 read-field-spec =
     tie.close
     (tie.spec
-    is-blank-four-requires
+    (λ c κs. search needs)
     returns
-    skip-spaces-requires
+    (λ c κs. search needs)
     returns-2
     read-filled-requires
-    returns-3)
+    (λ c. search needs))

@@ -7,18 +7,6 @@ use borrow.Author.Needs.{needs}
 use Rattle.columns.proofs.reading.read_filled.Statement.{statement}
 use Rattle.columns.proofs.reading.read_filled.Tie as tie
 
-add-b : tie.Need-add-b
-add-b c = search needs
-
-shared-slice-read-b : tie.Need-shared-slice-read-b
-shared-slice-read-b c = search needs
-
-add-next : tie.Need-add-next
-add-next c = search needs
-
-is-leading-requires : tie.Need-is-leading-requires
-is-leading-requires c κs = search needs
-
 digit-requires : tie.Need-digit-requires
 digit-requires c κs = leading-digit _ (sym (c .before .is-leading .ensures) ∙ c .if1 .taken)
 
@@ -27,16 +15,10 @@ read-digits-requires c κs =
     let (e, z, p) = c .before .before .before .before .before .pre .1 in
     ((omega arith, omega arith, omega arith), (digit-first _ _ (c .before .before .before .before .before .args .i) e (sym (c .before .before .is-leading .ensures) ∙ c .before .if1 .taken), rw (c .digit .ensures) (number-first _ _ (c .before .before .before .before .before .args .i) z)))
 
-returns : tie.Need-returns
-returns c = search needs
-
 read-negative-requires : tie.Need-read-negative-requires
 read-negative-requires c κs =
     let (e, z) = minus-first _ _ (c .before .before .before .before .before .args .i) (c .before .before .before .before .before .pre .1 .0) (c .before .before .before .before .before .pre .1 .1) (c .if2 .taken) in
     ((omega arith, omega arith, omega arith), (e, z))
-
-returns-2 : tie.Need-returns-2
-returns-2 c = search needs
 
 returns-3 : tie.Need-returns-3
 returns-3 c = sym (zero-last _ _ (c .before .before .before .before .before .before .before .args .i) (c .before .before .before .before .before .before .before .args .n) (c .if4 .taken) (c .before .before .before .before .before .before .before .pre .1 .0) (c .before .before .before .before .before .before .before .pre .1 .1) (c .before .if3 .taken))
@@ -55,15 +37,15 @@ pub read-filled-spec : {M : Type 1} → statement M
 read-filled-spec =
     tie.close
     (tie.spec
-    add-b
-    shared-slice-read-b
-    add-next
-    is-leading-requires
+    (λ c. search needs)
+    (λ c. search needs)
+    (λ c. search needs)
+    (λ c κs. search needs)
     digit-requires
     read-digits-requires
-    returns
+    (λ c. search needs)
     read-negative-requires
-    returns-2
+    (λ c. search needs)
     returns-3
     returns-4
     returns-5)

@@ -10,18 +10,6 @@ use Rattle.columns.proofs.reading.read_negative.Tie as tie
 returns : tie.Need-returns
 returns c = sym (sign-last _ _ (c .before .before .args .i) (c .before .before .args .n) (c .if1 .taken) (c .before .before .pre .1 .0))
 
-add-b : tie.Need-add-b
-add-b c = search needs
-
-shared-slice-read-b : tie.Need-shared-slice-read-b
-shared-slice-read-b c = search needs
-
-is-leading-requires : tie.Need-is-leading-requires
-is-leading-requires c κs = search needs
-
-add-read-digits : tie.Need-add-read-digits
-add-read-digits c = search needs
-
 digit-requires : tie.Need-digit-requires
 digit-requires c κs = leading-digit _ (sym (c .before .is-leading .ensures) ∙ c .if2 .taken)
 
@@ -29,9 +17,6 @@ read-digits-requires : tie.Need-read-digits-requires
 read-digits-requires c κs =
     let h : c .before .before .before .before .before .before .args .i < c .before .before .before .before .before .before .args .n = omega arith in
     ((omega arith, omega arith, omega arith), (sign-digit _ _ (c .before .before .before .before .before .before .args .i) (c .before .before .before .before .before .before .pre .1 .0) (sym (c .before .before .is-leading .ensures) ∙ c .before .if2 .taken), rw (c .digit .ensures) (number-first _ _ (c .before .before .before .before .before .before .args .i) (c .before .before .before .before .before .before .pre .1 .1))))
-
-returns-2 : tie.Need-returns-2
-returns-2 c = search needs
 
 returns-3 : tie.Need-returns-3
 returns-3 c =
@@ -43,11 +28,11 @@ read-negative-spec =
     tie.close
     (tie.spec
     returns
-    add-b
-    shared-slice-read-b
-    is-leading-requires
-    add-read-digits
+    (λ c. search needs)
+    (λ c. search needs)
+    (λ c κs. search needs)
+    (λ c. search needs)
     digit-requires
     read-digits-requires
-    returns-2
+    (λ c. search needs)
     returns-3)

@@ -16,26 +16,11 @@ Inv-loop l at n i₀ i = (i ≤ n) × (shapeOf l at i ≡ Spaces) × (digitsOf l
 abbrev μ-loop : tie.MeasureT-loop
 μ-loop l at n i₀ i = n - i
 
-skip-fours-requires : tie.Need-skip-fours-requires Inv-loop μ-loop
-skip-fours-requires c κs = search needs
-
 loop-holds : tie.Need-loop-holds Inv-loop μ-loop
 loop-holds c = c .skip-fours .ensures
 
-add-if1 : tie.Need-add-if1 Inv-loop μ-loop
-add-if1 c = omega arith
-
-shared-slice-read-if1 : tie.Need-shared-slice-read-if1 Inv-loop μ-loop
-shared-slice-read-if1 c = omega arith
-
 returns : tie.Need-returns Inv-loop μ-loop
 returns c = ((omega arith, c .before .before .before .loop .inv .1, c .before .before .before .loop .inv .2), λ h. ne-eqb _ _ (c .if1 .taken))
-
-add-i : tie.Need-add-i Inv-loop μ-loop
-add-i c = omega arith
-
-loop-less : tie.Need-loop-less Inv-loop μ-loop
-loop-less c = omega arith
 
 loop-again : tie.Need-loop-again Inv-loop μ-loop
 loop-again c =
@@ -52,12 +37,12 @@ skip-spaces-spec =
     (tie.spec
     Inv-loop
     μ-loop
-    skip-fours-requires
+    (λ c κs. search needs)
     loop-holds
-    add-if1
-    shared-slice-read-if1
+    (λ c. omega arith)
+    (λ c. omega arith)
     returns
-    add-i
-    loop-less
+    (λ c. omega arith)
+    (λ c. omega arith)
     loop-again
     returns-2)

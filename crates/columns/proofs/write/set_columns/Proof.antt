@@ -17,29 +17,8 @@ abbrev μ-loop : tie.MeasureT-loop
 loop-holds : tie.Need-loop-holds Inv-loop μ-loop
 loop-holds c = (omega arith, refl, refl)
 
-sub-i : tie.Need-sub-i Inv-loop μ-loop
-sub-i c = omega arith
-
-last-byte-requires : tie.Need-last-byte-requires Inv-loop μ-loop
-last-byte-requires c κs = search needs
-
-add-s : tie.Need-add-s Inv-loop μ-loop
-add-s c = omega arith
-
-slice-write-s : tie.Need-slice-write-s Inv-loop μ-loop
-slice-write-s c = omega arith
-
-shape-before-requires : tie.Need-shape-before-requires Inv-loop μ-loop
-shape-before-requires c κs = search needs
-
-loop-less : tie.Need-loop-less Inv-loop μ-loop
-loop-less c = omega arith
-
 loop-again : tie.Need-loop-again Inv-loop μ-loop
 loop-again c = (omega arith, rw length-set (c .before .before .before .loop .inv .1), rw (c .shape-before .ensures, c .before .last-byte .ensures) (sym (columns-step _ _ _ _ _ (c .before .before .loop-test .taken)) ∙ c .before .before .before .loop .inv .2))
-
-same-length : tie.Need-same-length Inv-loop μ-loop
-same-length c = omega arith
 
 returns : tie.Need-returns Inv-loop μ-loop
 unfolding columnsSet
@@ -52,12 +31,12 @@ set-columns-spec =
     Inv-loop
     μ-loop
     loop-holds
-    sub-i
-    last-byte-requires
-    add-s
-    slice-write-s
-    shape-before-requires
-    loop-less
+    (λ c. omega arith)
+    (λ c κs. search needs)
+    (λ c. omega arith)
+    (λ c. omega arith)
+    (λ c κs. search needs)
+    (λ c. omega arith)
     loop-again
-    same-length
+    (λ c. omega arith)
     returns)

@@ -3,9 +3,6 @@ use borrow.Author.Needs.{needs}
 use Rattle.decoded.proofs.decode.arithmetic_from.Statement.{statement}
 use Rattle.decoded.proofs.decode.arithmetic_from.Tie as tie
 
-operand-in-requires : tie.Need-operand-in-requires
-operand-in-requires c κs = search needs
-
 returns : tie.Need-returns
 returns c = simp (eq-eqb _ _ (c .if1 .taken), ← c .before .before .operand-in .ensures)
 
@@ -18,9 +15,6 @@ returns-3 c = simp (eq-eqb _ _ (c .if3 .taken), ne-eqb _ _ (c .before .before .i
 returns-4 : tie.Need-returns-4
 returns-4 c = simp (eq-eqb _ _ (c .if4 .taken), ne-eqb _ _ (c .before .before .if3 .left), ne-eqb _ _ (c .before .before .before .before .if2 .left), ne-eqb _ _ (c .before .before .before .before .before .before .if1 .left), ← c .before .before .before .before .before .before .before .before .operand-in .ensures)
 
-access-from-requires : tie.Need-access-from-requires
-access-from-requires c κs = search needs
-
 returns-5 : tie.Need-returns-5
 returns-5 c = simp (ne-eqb _ _ (c .before .if4 .left), ne-eqb _ _ (c .before .before .before .if3 .left), ne-eqb _ _ (c .before .before .before .before .before .if2 .left), ne-eqb _ _ (c .before .before .before .before .before .before .before .if1 .left)) (c .access-from .ensures)
 
@@ -28,10 +22,10 @@ pub arithmetic-from-spec : {M : Type 1} → statement M
 arithmetic-from-spec =
     tie.close
     (tie.spec
-    operand-in-requires
+    (λ c κs. search needs)
     returns
     returns-2
     returns-3
     returns-4
-    access-from-requires
+    (λ c κs. search needs)
     returns-5)

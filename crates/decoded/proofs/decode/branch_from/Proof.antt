@@ -6,9 +6,6 @@ use Rattle.decoded.proofs.decode.branch_from.Tie as tie
 returns : tie.Need-returns
 returns c = simp (eq-eqb _ _ (c .if1 .taken))
 
-operand-in-requires : tie.Need-operand-in-requires
-operand-in-requires c κs = search needs
-
 returns-2 : tie.Need-returns-2
 returns-2 c = simp (eq-eqb _ _ (c .if2 .taken), ← c .before .before .operand-in .ensures, ne-eqb _ _ (c .before .before .before .if1 .left))
 
@@ -16,4 +13,4 @@ returns-3 : tie.Need-returns-3
 returns-3 c = simp (ne-eqb _ _ (c .if2 .left), ← c .before .before .operand-in .ensures, ne-eqb _ _ (c .before .before .before .if1 .left))
 
 pub branch-from-spec : {M : Type 1} → statement M
-branch-from-spec = tie.close (tie.spec returns operand-in-requires returns-2 returns-3)
+branch-from-spec = tie.close (tie.spec returns (λ c κs. search needs) returns-2 returns-3)

@@ -5,24 +5,9 @@ use Rattle.decoded.specs.Decoded.{claimFrom}
 use Rattle.decoded.proofs.decode.claim_at.Statement.{statement}
 use Rattle.decoded.proofs.decode.claim_at.Tie as tie
 
-kind-at-requires : tie.Need-kind-at-requires
-kind-at-requires c κs = search needs
-
-row-at-requires : tie.Need-row-at-requires
-row-at-requires c κs = search needs
-
-stripe-from-requires : tie.Need-stripe-from-requires
-stripe-from-requires c κs = search needs
-
 returns : tie.Need-returns
 unfolding claimFrom
 returns c = rw (c .stripe-from .ensures, c .before .row-at .ensures, ← c .before .before .before .kind-at .ensures, eq-eqb _ _ (c .before .before .if1 .taken))
-
-index-at-requires : tie.Need-index-at-requires
-index-at-requires c κs = search needs
-
-number-at-requires : tie.Need-number-at-requires
-number-at-requires c κs = search needs
 
 returns-2 : tie.Need-returns-2
 unfolding claimFrom
@@ -36,11 +21,11 @@ pub claim-at-spec : {M : Type 1} → statement M
 claim-at-spec =
     tie.close
     (tie.spec
-    kind-at-requires
-    row-at-requires
-    stripe-from-requires
+    (λ c κs. search needs)
+    (λ c κs. search needs)
+    (λ c κs. search needs)
     returns
-    index-at-requires
-    number-at-requires
+    (λ c κs. search needs)
+    (λ c κs. search needs)
     returns-2
     returns-3)

@@ -8,9 +8,6 @@ returns : tie.Need-returns
 unfolding instructionFrom
 returns c = simp (eq-eqb _ _ (c .if1 .taken))
 
-word-requires : tie.Need-word-requires
-word-requires c κs = search needs
-
 returns-2 : tie.Need-returns-2
 unfolding instructionFrom
 returns-2 c = simp (← c .word .ensures, eq-eqb _ _ (c .before .if2 .taken), ne-eqb _ _ (c .before .before .before .if1 .left))
@@ -19,9 +16,6 @@ returns-3 : tie.Need-returns-3
 unfolding instructionFrom
 returns-3 c = simp (eq-eqb _ _ (c .if3 .taken), ne-eqb _ _ (c .before .before .if2 .left), ne-eqb _ _ (c .before .before .before .before .if1 .left))
 
-arithmetic-from-requires : tie.Need-arithmetic-from-requires
-arithmetic-from-requires c κs = search needs
-
 returns-4 : tie.Need-returns-4
 unfolding instructionFrom
 returns-4 c = simp (← c .arithmetic-from .ensures, ne-eqb _ _ (c .before .if3 .left), ne-eqb _ _ (c .before .before .before .if2 .left), ne-eqb _ _ (c .before .before .before .before .before .if1 .left))
@@ -29,4 +23,4 @@ returns-4 c = simp (← c .arithmetic-from .ensures, ne-eqb _ _ (c .before .if3 
 pub instruction-from-spec : {M : Type 1} → statement M
 instruction-from-spec =
     tie.close
-    (tie.spec returns word-requires returns-2 returns-3 arithmetic-from-requires returns-4)
+    (tie.spec returns (λ c κs. search needs) returns-2 returns-3 (λ c κs. search needs) returns-4)

@@ -15,48 +15,6 @@ made : {k a b c d e f g : ℕ} (w : Word) (fs : List Field) → k ≡ kindOf w �
     → numbers k a b c d e f g ≡ rowOf w fs
 made w fs p q r s t u v x = rw (p, q, r, s, t, u, v, x)
 
-array-copy-out-f1 : tie.Need-array-copy-out-f1
-array-copy-out-f1 c = search needs
-
-array-copy-out-f2 : tie.Need-array-copy-out-f2
-array-copy-out-f2 c = search needs
-
-array-copy-out-f3 : tie.Need-array-copy-out-f3
-array-copy-out-f3 c = search needs
-
-array-copy-out-f4 : tie.Need-array-copy-out-f4
-array-copy-out-f4 c = search needs
-
-array-copy-out-f5 : tie.Need-array-copy-out-f5
-array-copy-out-f5 c = search needs
-
-array-copy-out-f6 : tie.Need-array-copy-out-f6
-array-copy-out-f6 c = search needs
-
-kind-of-requires : tie.Need-kind-of-requires
-kind-of-requires c κs = search needs
-
-value-requires : tie.Need-value-requires
-value-requires c κs = search needs
-
-value-requires-2 : tie.Need-value-requires-2
-value-requires-2 c κs = search needs
-
-value-requires-3 : tie.Need-value-requires-3
-value-requires-3 c κs = search needs
-
-variable-or-blank-requires : tie.Need-variable-or-blank-requires
-variable-or-blank-requires c κs = search needs
-
-value-requires-4 : tie.Need-value-requires-4
-value-requires-4 c κs = search needs
-
-plus-in-requires : tie.Need-plus-in-requires
-plus-in-requires c κs = search needs
-
-minus-in-requires : tie.Need-minus-in-requires
-minus-in-requires c κs = search needs
-
 returns : tie.Need-returns
 returns c =
     made (c .before .before .before .before .before .before .before .before .before .before .before .before .before .before .args .w) (c .before .before .before .before .before .before .before .before .before .before .before .before .before .before .args .t2) (c .before .before .before .before .before .before .before .kind-of .ensures) (c .before .before .before .before .before .before .value .ensures) (c .before .before .before .before .before .value2 .ensures) (c .before .before .before .before .value3 .ensures)
@@ -66,18 +24,18 @@ pub row-of-spec : {M : Type 1} → statement M
 row-of-spec =
     tie.close
     (tie.spec
-    array-copy-out-f1
-    array-copy-out-f2
-    array-copy-out-f3
-    array-copy-out-f4
-    array-copy-out-f5
-    array-copy-out-f6
-    kind-of-requires
-    value-requires
-    value-requires-2
-    value-requires-3
-    variable-or-blank-requires
-    value-requires-4
-    plus-in-requires
-    minus-in-requires
+    (λ c. search needs)
+    (λ c. search needs)
+    (λ c. search needs)
+    (λ c. search needs)
+    (λ c. search needs)
+    (λ c. search needs)
+    (λ c κs. search needs)
+    (λ c κs. search needs)
+    (λ c κs. search needs)
+    (λ c κs. search needs)
+    (λ c κs. search needs)
+    (λ c κs. search needs)
+    (λ c κs. search needs)
+    (λ c κs. search needs)
     returns)

@@ -13,19 +13,10 @@ returns c = rw (c .if1 .taken)
 returns-2 : tie.Need-returns-2
 returns-2 c = rw (no-line _ _ (c .if2 .taken))
 
-sub-shown-from : tie.Need-sub-shown-from
-sub-shown-from c = omega arith
-
-mul-shown-from : tie.Need-mul-shown-from
-mul-shown-from c = omega arith
-
-shown-from-requires : tie.Need-shown-from-requires
-shown-from-requires c κs = omega arith
-
 returns-3 : tie.Need-returns-3
 returns-3 c = c .shown-from .ensures ∙ sym (whole-line _ _ (omega arith) (omega arith))
 
 pub shown-line-spec : {M : Type 1} → statement M
 shown-line-spec =
     tie.close
-    (tie.spec returns returns-2 sub-shown-from mul-shown-from shown-from-requires returns-3)
+    (tie.spec returns returns-2 (λ c. omega arith) (λ c. omega arith) (λ c κs. omega arith) returns-3)

@@ -6,12 +6,6 @@ use borrow.Author.Needs.{needs}
 use Rattle.facts.proofs.ends.end_of.Statement.{statement}
 use Rattle.facts.proofs.ends.end_of.Tie as tie
 
-mul-result : tie.Need-mul-result
-mul-result c = search needs
-
-element-copy-out-result : tie.Need-element-copy-out-result
-element-copy-out-result c = search needs
-
 returns : tie.Need-returns
 returns c =
     let start = c .before .before in
@@ -21,4 +15,4 @@ returns-2 : tie.Need-returns-2
 returns-2 c = (sym (List·getD-eq-default (c .before .args .ends .now) 0 (omega (arith, c .before .pre .long))), search needs)
 
 pub end-of-spec : {M : Type 1} → statement M
-end-of-spec = tie.close (tie.spec mul-result element-copy-out-result returns returns-2)
+end-of-spec = tie.close (tie.spec (λ c. search needs) (λ c. search needs) returns returns-2)

@@ -4,17 +4,11 @@ use borrow.Author.Needs.{needs}
 use Rattle.goals.proofs.follows.at_once.Statement.{statement}
 use Rattle.goals.proofs.follows.at_once.Tie as tie
 
-by-ends-requires : tie.Need-by-ends-requires
-by-ends-requires c κs = search needs
-
 returns : tie.Need-returns
 returns c = rw (sym (c .before .by-ends .ensures) ∙ c .if1 .taken) refl
-
-stands-requires : tie.Need-stands-requires
-stands-requires c κs = search needs
 
 returns-2 : tie.Need-returns-2
 returns-2 c = rw (sym (c .before .before .by-ends .ensures) ∙ c .before .if1 .left) (c .stands .ensures)
 
 pub at-once-spec : {M : Type 1} → statement M
-at-once-spec = tie.close (tie.spec by-ends-requires returns stands-requires returns-2)
+at-once-spec = tie.close (tie.spec (λ c κs. search needs) returns (λ c κs. search needs) returns-2)

@@ -5,21 +5,6 @@ use borrow.Author.Needs.{needs}
 use Rattle.goals.proofs.follows.claim_follows.Statement.{statement}
 use Rattle.goals.proofs.follows.claim_follows.Tie as tie
 
-enum-known-c : tie.Need-enum-known-c
-enum-known-c c = search needs
-
-end-of-requires : tie.Need-end-of-requires
-end-of-requires c κs = search needs
-
-enum-known-c-2 : tie.Need-enum-known-c-2
-enum-known-c-2 c = search needs
-
-end-of-requires-2 : tie.Need-end-of-requires-2
-end-of-requires-2 c κs = search needs
-
-enum-known-c-3 : tie.Need-enum-known-c-3
-enum-known-c-3 c = search needs
-
 goal-follows-requires : tie.Need-goal-follows-requires
 goal-follows-requires c κs =
     let start = c .before .before .before in
@@ -44,11 +29,11 @@ pub claim-follows-spec : {M : Type 1} → statement M
 claim-follows-spec =
     tie.close
     (tie.spec
-    enum-known-c
-    end-of-requires
-    enum-known-c-2
-    end-of-requires-2
-    enum-known-c-3
+    (λ c. search needs)
+    (λ c κs. search needs)
+    (λ c. search needs)
+    (λ c κs. search needs)
+    (λ c. search needs)
     goal-follows-requires
     returns
     returns-2

@@ -10,24 +10,6 @@ use borrow.Author.Needs.{needs}
 use Rattle.goals.proofs.follows.goal_follows.Statement.{statement}
 use Rattle.goals.proofs.follows.goal_follows.Tie as tie
 
-cast-end-of : tie.Need-cast-end-of
-cast-end-of c = search needs
-
-end-of-requires : tie.Need-end-of-requires
-end-of-requires c κs = search needs
-
-wide-requires : tie.Need-wide-requires
-wide-requires c κs = search needs
-
-wide-requires-2 : tie.Need-wide-requires-2
-wide-requires-2 c κs = search needs
-
-wide-requires-3 : tie.Need-wide-requires-3
-wide-requires-3 c κs = search needs
-
-at-once-requires : tie.Need-at-once-requires
-at-once-requires c κs = search needs
-
 returns : tie.Need-returns
 returns c f laid =
     let a = c .before .before .before .before .before .before .before .args in
@@ -72,12 +54,12 @@ pub goal-follows-spec : {M : Type 1} → statement M
 goal-follows-spec =
     tie.close
     (tie.spec
-    cast-end-of
-    end-of-requires
-    wide-requires
-    wide-requires-2
-    wide-requires-3
-    at-once-requires
+    (λ c. search needs)
+    (λ c κs. search needs)
+    (λ c κs. search needs)
+    (λ c κs. search needs)
+    (λ c κs. search needs)
+    (λ c κs. search needs)
     returns
     gather-requires
     follows-requires

@@ -11,12 +11,6 @@ use borrow.Author.Needs.{needs}
 use Rattle.goals.proofs.links.add_link.Statement.{statement}
 use Rattle.goals.proofs.links.add_link.Tie as tie
 
-place-requires : tie.Need-place-requires
-place-requires c κs = search needs
-
-enough-requires : tie.Need-enough-requires
-enough-requires c κs = search needs
-
 returns : tie.Need-returns
 returns c =
     let start = c .before .before .before .before .before .before in
@@ -24,9 +18,6 @@ returns c =
     let found = c .before .before .before .before .place in
     let same = found .ensures .1 (c .before .before .before .if1 .taken) in
     ((omega arith, start .pre .0), better-stands (a .links .now) (start .pre .0) (a .v) (a .u) (a .plus) (a .minus) (found .result) (a .k) (c .before .before .before .if1 .taken) (same .0) (same .1) (sym (c .before .enough .ensures) ∙ c .if2 .taken))
-
-write-link-requires : tie.Need-write-link-requires
-write-link-requires c κs = search needs
 
 returns-2 : tie.Need-returns-2
 returns-2 c =
@@ -38,12 +29,6 @@ returns-2 c =
       (omega arith, link-sized (a .links .now) (found .result) (a .v) (a .u) (a .plus) (a .minus) (omega arith) (omega arith) (omega arith) (omega arith) (start .pre .0)),
       worse-replaced (a .links .now) (start .pre .0) (a .v) (a .u) (a .plus) (a .minus) (found .result) (a .k) (c .before .before .before .before .before .if1 .taken) (same .0) (same .1) (omega arith) (sym (c .before .before .before .enough .ensures) ∙ c .before .before .if2 .left),
     )
-
-write-link-requires-2 : tie.Need-write-link-requires-2
-write-link-requires-2 c κs = search needs
-
-add-result : tie.Need-add-result
-add-result c = search needs
 
 returns-3 : tie.Need-returns-3
 returns-3 c =
@@ -58,11 +43,11 @@ pub add-link-spec : {M : Type 1} → statement M
 add-link-spec =
     tie.close
     (tie.spec
-    place-requires
-    enough-requires
+    (λ c κs. search needs)
+    (λ c κs. search needs)
     returns
-    write-link-requires
+    (λ c κs. search needs)
     returns-2
-    write-link-requires-2
-    add-result
+    (λ c κs. search needs)
+    (λ c. search needs)
     returns-3)

@@ -8,45 +8,6 @@ use borrow.Author.Needs.{needs}
 use Rattle.goals.proofs.links.add_row.Statement.{statement}
 use Rattle.goals.proofs.links.add_row.Tie as tie
 
-is-link-requires : tie.Need-is-link-requires
-is-link-requires c κs = search needs
-
-mul-at : tie.Need-mul-at
-mul-at c = search needs
-
-add-add-link : tie.Need-add-add-link
-add-add-link c = search needs
-
-mul-add-link : tie.Need-mul-add-link
-mul-add-link c = search needs
-
-element-copy-out-add-link : tie.Need-element-copy-out-add-link
-element-copy-out-add-link c = search needs
-
-mul-add-link-2 : tie.Need-mul-add-link-2
-mul-add-link-2 c = search needs
-
-element-copy-out-add-link-2 : tie.Need-element-copy-out-add-link-2
-element-copy-out-add-link-2 c = search needs
-
-add-add-link-2 : tie.Need-add-add-link-2
-add-add-link-2 c = search needs
-
-mul-add-link-3 : tie.Need-mul-add-link-3
-mul-add-link-3 c = search needs
-
-element-copy-out-add-link-3 : tie.Need-element-copy-out-add-link-3
-element-copy-out-add-link-3 c = search needs
-
-add-add-link-3 : tie.Need-add-add-link-3
-add-add-link-3 c = search needs
-
-mul-add-link-4 : tie.Need-mul-add-link-4
-mul-add-link-4 c = search needs
-
-element-copy-out-add-link-4 : tie.Need-element-copy-out-add-link-4
-element-copy-out-add-link-4 c = search needs
-
 add-link-requires : tie.Need-add-link-requires
 add-link-requires c κs =
     let start = c .before .before .before .before .before .before .before in
@@ -70,19 +31,19 @@ pub add-row-spec : {M : Type 1} → statement M
 add-row-spec =
     tie.close
     (tie.spec
-    is-link-requires
-    mul-at
-    add-add-link
-    mul-add-link
-    element-copy-out-add-link
-    mul-add-link-2
-    element-copy-out-add-link-2
-    add-add-link-2
-    mul-add-link-3
-    element-copy-out-add-link-3
-    add-add-link-3
-    mul-add-link-4
-    element-copy-out-add-link-4
+    (λ c κs. search needs)
+    (λ c. search needs)
+    (λ c. search needs)
+    (λ c. search needs)
+    (λ c. search needs)
+    (λ c. search needs)
+    (λ c. search needs)
+    (λ c. search needs)
+    (λ c. search needs)
+    (λ c. search needs)
+    (λ c. search needs)
+    (λ c. search needs)
+    (λ c. search needs)
     add-link-requires
     returns
     returns-2)

@@ -23,12 +23,6 @@ add-row-requires c κs =
     let at = c .before .before .loop in
     (start .pre .0, (at .inv .2, omega arith))
 
-add-i : tie.Need-add-i Inv-loop μ-loop
-add-i c = omega arith
-
-loop-less : tie.Need-loop-less Inv-loop μ-loop
-loop-less c = omega arith
-
 loop-again : tie.Need-loop-again Inv-loop μ-loop
 loop-again c =
     let a = c .before .before .before .before .args in
@@ -45,4 +39,4 @@ returns c =
 pub gather-spec : {M : Type 1} → statement M
 gather-spec =
     tie.close
-    (tie.spec Inv-loop μ-loop loop-holds add-row-requires add-i loop-less loop-again returns)
+    (tie.spec Inv-loop μ-loop loop-holds add-row-requires (λ c. omega arith) (λ c. omega arith) loop-again returns)

@@ -5,12 +5,9 @@ use Rattle.lines.specs.Faults.{faultOf}
 use Rattle.lines.proofs.faults.choice.Statement.{statement}
 use Rattle.lines.proofs.faults.choice.Tie as tie
 
-at-most-requires : tie.Need-at-most-requires
-at-most-requires c κs = search needs
-
 returns : tie.Need-returns
 unfolding faultOf within
 returns c f1 f5 = c .at-most .ensures
 
 pub choice-spec : {M : Type 1} → statement M
-choice-spec = tie.close (tie.spec at-most-requires returns)
+choice-spec = tie.close (tie.spec (λ c κs. search needs) returns)

@@ -6,22 +6,13 @@ use Rattle.lines.specs.Faults.{faultOf}
 use Rattle.lines.proofs.faults.claimed.Statement.{statement}
 use Rattle.lines.proofs.faults.claimed.Tie as tie
 
-value-requires : tie.Need-value-requires
-value-requires c κs = search needs
-
-at-most-requires : tie.Need-at-most-requires
-at-most-requires c κs = search needs
-
 returns : tie.Need-returns
 unfolding faultOf within
 returns c f5 = simp (c .at-most .ensures, ← c .before .before .value .ensures, lt-ltb _ _ (c .before .if1 .taken))
-
-at-most-requires-2 : tie.Need-at-most-requires-2
-at-most-requires-2 c κs = search needs
 
 returns-2 : tie.Need-returns-2
 unfolding faultOf within
 returns-2 c f5 = simp (c .at-most2 .ensures, ← c .before .before .value .ensures, le-ltb _ _ (c .before .if1 .left))
 
 pub claimed-spec : {M : Type 1} → statement M
-claimed-spec = tie.close (tie.spec value-requires at-most-requires returns at-most-requires-2 returns-2)
+claimed-spec = tie.close (tie.spec (λ c κs. search needs) (λ c κs. search needs) returns (λ c κs. search needs) returns-2)

@@ -5,15 +5,9 @@ use Rattle.lines.specs.Faults.{faultOf}
 use Rattle.lines.proofs.faults.empty.Statement.{statement}
 use Rattle.lines.proofs.faults.empty.Tie as tie
 
-is-blank-requires : tie.Need-is-blank-requires
-is-blank-requires c κs = search needs
-
-fault-requires : tie.Need-fault-requires
-fault-requires c κs = search needs
-
 returns : tie.Need-returns
 unfolding faultOf within
 returns c f1 f5 = rw (c .fault .ensures, c .before .is-blank .ensures)
 
 pub empty-spec : {M : Type 1} → statement M
-empty-spec = tie.close (tie.spec is-blank-requires fault-requires returns)
+empty-spec = tie.close (tie.spec (λ c κs. search needs) (λ c κs. search needs) returns)

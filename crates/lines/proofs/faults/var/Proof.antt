@@ -5,12 +5,9 @@ use Rattle.lines.specs.Faults.{faultOf}
 use Rattle.lines.proofs.faults.var.Statement.{statement}
 use Rattle.lines.proofs.faults.var.Tie as tie
 
-below-requires : tie.Need-below-requires
-below-requires c κs = search needs
-
 returns : tie.Need-returns
 unfolding faultOf within
 returns c f1 f5 = c .below .ensures
 
 pub var-spec : {M : Type 1} → statement M
-var-spec = tie.close (tie.spec below-requires returns)
+var-spec = tie.close (tie.spec (λ c κs. search needs) returns)

@@ -5,21 +5,9 @@ use Rattle.lines.specs.Faults.{faultOf}
 use Rattle.lines.proofs.faults.var_or_empty.Statement.{statement}
 use Rattle.lines.proofs.faults.var_or_empty.Tie as tie
 
-is-blank-or-number-requires : tie.Need-is-blank-or-number-requires
-is-blank-or-number-requires c κs = search needs
-
-is-blank-requires : tie.Need-is-blank-requires
-is-blank-requires c κs = search needs
-
-value-requires : tie.Need-value-requires
-value-requires c κs = search needs
-
-fault-requires : tie.Need-fault-requires
-fault-requires c κs = search needs
-
 returns : tie.Need-returns
 unfolding faultOf within
 returns c f1 f5 = rw (c .fault .ensures, c .before .value .ensures, c .before .before .is-blank .ensures, c .before .before .before .is-blank-or-number .ensures)
 
 pub var-or-empty-spec : {M : Type 1} → statement M
-var-or-empty-spec = tie.close (tie.spec is-blank-or-number-requires is-blank-requires value-requires fault-requires returns)
+var-or-empty-spec = tie.close (tie.spec (λ c κs. search needs) (λ c κs. search needs) (λ c κs. search needs) (λ c κs. search needs) returns)

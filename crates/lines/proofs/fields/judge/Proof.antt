@@ -7,12 +7,6 @@ use Rattle.lines.proofs.fields.judge.Tie as tie
 enum-told : tie.Need-enum-told
 enum-told c = search needs
 
-enum-known-w : tie.Need-enum-known-w
-enum-known-w c = search needs
-
-judge-known-requires : tie.Need-judge-known-requires
-judge-known-requires c κs = search needs
-
 returns : tie.Need-returns
 unfolding judged
 returns c = simp (c .enum-told .given .1)
@@ -22,4 +16,4 @@ unfolding judged
 returns-2 c = simp (← c .judge-known .ensures, c .before .before .w .given .1)
 
 pub judge-spec : {M : Type 1} → statement M
-judge-spec = tie.close (tie.spec enum-told enum-known-w judge-known-requires returns returns-2)
+judge-spec = tie.close (tie.spec enum-told (λ c. search needs) (λ c κs. search needs) returns returns-2)

@@ -20,18 +20,6 @@ loop-holds : tie.Need-loop-holds Inv-loop μ-loop
 unfolding everyBelow
 loop-holds c = (omega arith, refl)
 
-shared-slice-read-is-printable : tie.Need-shared-slice-read-is-printable Inv-loop μ-loop
-shared-slice-read-is-printable c = omega arith
-
-is-printable-requires : tie.Need-is-printable-requires Inv-loop μ-loop
-is-printable-requires c κs = search needs
-
-add-j : tie.Need-add-j Inv-loop μ-loop
-add-j c = omega arith
-
-loop-less : tie.Need-loop-less Inv-loop μ-loop
-loop-less c = omega arith
-
 loop-again : tie.Need-loop-again Inv-loop μ-loop
 unfolding everyBelow
 loop-again c = (omega arith, rw (c .is-printable .ensures, c .before .before .before .loop .inv .1, add-one))
@@ -46,9 +34,9 @@ all-printable-spec =
     Inv-loop
     μ-loop
     loop-holds
-    shared-slice-read-is-printable
-    is-printable-requires
-    add-j
-    loop-less
+    (λ c. omega arith)
+    (λ c κs. search needs)
+    (λ c. omega arith)
+    (λ c. omega arith)
     loop-again
     returns)

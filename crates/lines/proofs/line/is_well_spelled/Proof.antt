@@ -5,15 +5,9 @@ use Rattle.model.specs.Lines.{wellSpelled}
 use Rattle.lines.proofs.line.is_well_spelled.Statement.{statement}
 use Rattle.lines.proofs.line.is_well_spelled.Tie as tie
 
-all-printable-requires : tie.Need-all-printable-requires
-all-printable-requires c κs = search needs
-
-shared-slice-read-result : tie.Need-shared-slice-read-result
-shared-slice-read-result c = search needs
-
 returns : tie.Need-returns
 unfolding wellSpelled everyBelow
 returns c = rw (c .before .all-printable .ensures)
 
 pub is-well-spelled-spec : {M : Type 1} → statement M
-is-well-spelled-spec = tie.close (tie.spec all-printable-requires shared-slice-read-result returns)
+is-well-spelled-spec = tie.close (tie.spec (λ c κs. search needs) (λ c. search needs) returns)

@@ -4,29 +4,17 @@ use Rattle.model.specs.Words.{wordAmong}
 use Rattle.lines.proofs.words.find_jump.Statement.{statement}
 use Rattle.lines.proofs.words.find_jump.Tie as tie
 
-begins-with-requires : tie.Need-begins-with-requires
-begins-with-requires c κs = search needs
-
 returns : tie.Need-returns
 unfolding wordAmong
 returns c = simp (c .if1 .taken, ← c .before .begins-with .ensures)
-
-begins-with-requires-2 : tie.Need-begins-with-requires-2
-begins-with-requires-2 c κs = search needs
 
 returns-2 : tie.Need-returns-2
 unfolding wordAmong
 returns-2 c = simp (c .if2 .taken, ← c .before .begins-with2 .ensures, c .before .before .if1 .left, ← c .before .before .before .begins-with .ensures)
 
-begins-with-requires-3 : tie.Need-begins-with-requires-3
-begins-with-requires-3 c κs = search needs
-
 returns-3 : tie.Need-returns-3
 unfolding wordAmong
 returns-3 c = simp (c .if3 .taken, ← c .before .begins-with3 .ensures, c .before .before .if2 .left, ← c .before .before .before .begins-with2 .ensures, c .before .before .before .before .if1 .left, ← c .before .before .before .before .before .begins-with .ensures)
-
-find-claim-requires : tie.Need-find-claim-requires
-find-claim-requires c κs = search needs
 
 returns-4 : tie.Need-returns-4
 unfolding wordAmong
@@ -36,11 +24,11 @@ pub find-jump-spec : {M : Type 1} → statement M
 find-jump-spec =
     tie.close
     (tie.spec
-    begins-with-requires
+    (λ c κs. search needs)
     returns
-    begins-with-requires-2
+    (λ c κs. search needs)
     returns-2
-    begins-with-requires-3
+    (λ c κs. search needs)
     returns-3
-    find-claim-requires
+    (λ c κs. search needs)
     returns-4)

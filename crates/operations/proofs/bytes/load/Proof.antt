@@ -9,14 +9,8 @@ enum-told c = search needs
 load-bytes-requires : tie.Need-load-bytes-requires
 load-bytes-requires c κs = let h = rw (c .enum-told .given .1) at (c .before .before .before .pre) in (omega arith, h)
 
-enum-told-2 : tie.Need-enum-told-2
-enum-told-2 c = search needs
-
 load-bytes-requires-2 : tie.Need-load-bytes-requires-2
 load-bytes-requires-2 c κs = let h = rw (c .enum-told2 .given .1) at (c .before .before .before .pre) in (omega arith, h)
-
-enum-told-3 : tie.Need-enum-told-3
-enum-told-3 c = search needs
 
 load-bytes-requires-3 : tie.Need-load-bytes-requires-3
 load-bytes-requires-3 c κs = let h = rw (c .enum-told3 .given .1) at (c .before .before .before .pre) in (omega arith, h)
@@ -36,9 +30,9 @@ load-spec =
     (tie.spec
     enum-told
     load-bytes-requires
-    enum-told-2
+    (λ c. search needs)
     load-bytes-requires-2
-    enum-told-3
+    (λ c. search needs)
     load-bytes-requires-3
     returns
     returns-2

@@ -12,15 +12,6 @@ abbrev μ-loop : tie.MeasureT-loop
 loop-holds : tie.Need-loop-holds Inv-loop μ-loop
 loop-holds c = load-none _ _ _
 
-sub-k : tie.Need-sub-k Inv-loop μ-loop
-sub-k c = omega arith
-
-add-wide : tie.Need-add-wide Inv-loop μ-loop
-add-wide c = omega arith
-
-shared-slice-read-wide : tie.Need-shared-slice-read-wide Inv-loop μ-loop
-shared-slice-read-wide c = omega arith
-
 wide-requires : tie.Need-wide-requires Inv-loop μ-loop
 wide-requires c κs = tt
 
@@ -29,9 +20,6 @@ mul-x c = omega (arith, load-room _ _ _ (λ i. c .before .shared-slice-known2 .g
 
 add-x : tie.Need-add-x Inv-loop μ-loop
 add-x c = omega (arith, load-room _ _ _ (λ i. c .before .shared-slice-known2 .given i .fits) (c .before .before .before .loop .inv) (c .before .before .loop-test .taken) (c .before .before .before .before .before .pre .0))
-
-loop-less : tie.Need-loop-less Inv-loop μ-loop
-loop-less c = omega arith
 
 loop-again : tie.Need-loop-again Inv-loop μ-loop
 loop-again c = load-more _ _ _ (c .before .before .before .loop .inv) (c .before .before .loop-test .taken) (c .wide .result) (c .wide .ensures .0)
@@ -46,12 +34,12 @@ load-bytes-spec =
     Inv-loop
     μ-loop
     loop-holds
-    sub-k
-    add-wide
-    shared-slice-read-wide
+    (λ c. omega arith)
+    (λ c. omega arith)
+    (λ c. omega arith)
     wide-requires
     mul-x
     add-x
-    loop-less
+    (λ c. omega arith)
     loop-again
     returns)

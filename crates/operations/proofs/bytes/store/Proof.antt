@@ -8,32 +8,17 @@ enum-told c = search needs
 store-bytes-requires : tie.Need-store-bytes-requires
 store-bytes-requires c κs = rw (c .before .enum-told .given .1) at (c .before .before .before .before .pre)
 
-enum-told-2 : tie.Need-enum-told-2
-enum-told-2 c = search needs
-
 store-bytes-requires-2 : tie.Need-store-bytes-requires-2
 store-bytes-requires-2 c κs = rw (c .before .enum-told2 .given .1) at (c .before .before .before .before .pre)
-
-enum-told-3 : tie.Need-enum-told-3
-enum-told-3 c = search needs
 
 store-bytes-requires-3 : tie.Need-store-bytes-requires-3
 store-bytes-requires-3 c κs = rw (c .before .enum-told3 .given .1) at (c .before .before .before .before .pre)
 
-same-length : tie.Need-same-length
-same-length c = search needs
-
 returns : tie.Need-returns
 returns c = rw (c .before .before .before .before .enum-told .given .1) (c .before .before .store-bytes .ensures)
 
-same-length-2 : tie.Need-same-length-2
-same-length-2 c = search needs
-
 returns-2 : tie.Need-returns-2
 returns-2 c = rw (c .before .before .before .before .enum-told2 .given .1) (c .before .before .store-bytes2 .ensures)
-
-same-length-3 : tie.Need-same-length-3
-same-length-3 c = search needs
 
 returns-3 : tie.Need-returns-3
 returns-3 c = rw (c .before .before .before .before .enum-told3 .given .1) (c .before .before .store-bytes3 .ensures)
@@ -44,13 +29,13 @@ store-spec =
     (tie.spec
     enum-told
     store-bytes-requires
-    enum-told-2
+    (λ c. search needs)
     store-bytes-requires-2
-    enum-told-3
+    (λ c. search needs)
     store-bytes-requires-3
-    same-length
+    (λ c. search needs)
     returns
-    same-length-2
+    (λ c. search needs)
     returns-2
-    same-length-3
+    (λ c. search needs)
     returns-3)

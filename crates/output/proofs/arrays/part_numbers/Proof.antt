@@ -5,12 +5,6 @@ use Rattle.output.proofs.arrays.part_numbers.Tie as tie
 enum-told : tie.Need-enum-told
 enum-told c = search needs
 
-enum-known-j : tie.Need-enum-known-j
-enum-known-j c = search needs
-
-numbers-requires : tie.Need-numbers-requires
-numbers-requires c κs = search needs
-
 returns : tie.Need-returns
 returns c = simp (c .enum-told .given .1)
 
@@ -19,4 +13,4 @@ returns-2 c = rw (c .before .before .j .given .1) (let told = c .numbers .ensure
 
 pub part-numbers-spec : {M : Type 1} → statement M
 part-numbers-spec =
-    tie.close (tie.spec enum-told enum-known-j numbers-requires returns returns-2)
+    tie.close (tie.spec enum-told (λ c. search needs) (λ c κs. search needs) returns returns-2)

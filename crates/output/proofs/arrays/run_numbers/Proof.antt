@@ -5,15 +5,6 @@ use Rattle.output.proofs.arrays.run_numbers.Tie as tie
 enum-told : tie.Need-enum-told
 enum-told c = search needs
 
-enum-told-2 : tie.Need-enum-told-2
-enum-told-2 c = search needs
-
-enum-known-report : tie.Need-enum-known-report
-enum-known-report c = search needs
-
-numbers-requires : tie.Need-numbers-requires
-numbers-requires c κs = search needs
-
 returns : tie.Need-returns
 returns c = simp (c .enum-told .given .1)
 
@@ -28,9 +19,9 @@ run-numbers-spec =
     tie.close
     (tie.spec
     enum-told
-    enum-told-2
-    enum-known-report
-    numbers-requires
+    (λ c. search needs)
+    (λ c. search needs)
+    (λ c κs. search needs)
     returns
     returns-2
     returns-3)

@@ -2,15 +2,6 @@ use borrow.Author.Needs.{needs}
 use Rattle.output.proofs.arrays.verdict_numbers.Statement.{statement}
 use Rattle.output.proofs.arrays.verdict_numbers.Tie as tie
 
-enum-known-v : tie.Need-enum-known-v
-enum-known-v c = search needs
-
-enum-known-v-2 : tie.Need-enum-known-v-2
-enum-known-v-2 c = search needs
-
-numbers-requires : tie.Need-numbers-requires
-numbers-requires c κs = search needs
-
 returns : tie.Need-returns
 returns c = simp (c .before .v .given .1)
 
@@ -21,8 +12,8 @@ pub verdict-numbers-spec : {M : Type 1} → statement M
 verdict-numbers-spec =
     tie.close
     (tie.spec
-    enum-known-v
-    enum-known-v-2
-    numbers-requires
+    (λ c. search needs)
+    (λ c. search needs)
+    (λ c κs. search needs)
     returns
     returns-2)

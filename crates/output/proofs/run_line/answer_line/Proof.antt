@@ -6,24 +6,6 @@ use Rattle.output.proofs.run_line.answer_line.Tie as tie
 enum-told : tie.Need-enum-told
 enum-told c = search needs
 
-text-requires : tie.Need-text-requires
-text-requires c κs = search needs
-
-run-line-requires : tie.Need-run-line-requires
-run-line-requires c κs = search needs
-
-enum-told-2 : tie.Need-enum-told-2
-enum-told-2 c = search needs
-
-run-line-requires-2 : tie.Need-run-line-requires-2
-run-line-requires-2 c κs = search needs
-
-enum-known-report : tie.Need-enum-known-report
-enum-known-report c = search needs
-
-printed-requires : tie.Need-printed-requires
-printed-requires c κs = search needs
-
 returns : tie.Need-returns
 returns c = rw (c .before .before .before .enum-told .given .1, stopped-line, ← c .before .before .text .ensures) (c .run-line .ensures)
 
@@ -38,12 +20,12 @@ answer-line-spec =
     tie.close
     (tie.spec
     enum-told
-    text-requires
-    run-line-requires
-    enum-told-2
-    run-line-requires-2
-    enum-known-report
-    printed-requires
+    (λ c κs. search needs)
+    (λ c κs. search needs)
+    (λ c. search needs)
+    (λ c κs. search needs)
+    (λ c. search needs)
+    (λ c κs. search needs)
     returns
     returns-2
     returns-3)

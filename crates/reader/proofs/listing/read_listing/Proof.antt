@@ -10,9 +10,6 @@ use borrow.Author.Needs.{needs}
 use Rattle.reader.proofs.listing.read_listing.Statement.{statement}
 use Rattle.reader.proofs.listing.read_listing.Tie as tie
 
-is-good-length-requires : tie.Need-is-good-length-requires
-is-good-length-requires c κs = search needs
-
 returns : tie.Need-returns
 returns c = rw (listing-bad _ (sym (c .before .is-good-length .ensures) ∙ not-true _ (c .if1 .taken))) refl
 
@@ -21,12 +18,6 @@ read-lines-requires c κs =
     let g = good-lines _ (sym (c .before .before .before .is-good-length .ensures) ∙ not-false _ (c .before .before .if1 .left)) in
     ((g .few, g .whole), (c .before .before .before .before .before .before .before .pre .lines (g .short), c .before .before .before .before .before .before .before .pre .places))
 
-enum-known-r : tie.Need-enum-known-r
-enum-known-r c = search needs
-
-enum-known-q : tie.Need-enum-known-q
-enum-known-q c = search needs
-
 whole-judged-requires : tie.Need-whole-judged-requires
 whole-judged-requires c κs =
     let g = good-lines _ (sym (c .before .before .before .before .before .before .before .before .before .before .before .before .before .is-good-length .ensures) ∙ not-false _ (c .before .before .before .before .before .before .before .before .before .before .before .before .if1 .left)) in
@@ -34,23 +25,11 @@ whole-judged-requires c κs =
     let s = c .before .before .before .before .before .before .before .before .before .before .before .before .before .before .before .before .before .args .listing .now in
     all-read _ _ _ (readTo s (length s / lineBytes)) _ (e .1) (sym (e .0) ∙ c .before .before .before .q .given .1) (g .some) (c .before .before .before .before .before .before .before .before .before .read-lines .kept .1 .1 .1 .0 ∙ c .before .before .before .before .before .before .before .before .before .before .before .before .before .before .before .before .before .pre .places)
 
-same-length : tie.Need-same-length
-same-length c = search needs
-
-same-length-2 : tie.Need-same-length-2
-same-length-2 c = search needs
-
 returns-2 : tie.Need-returns-2
 returns-2 c =
     let good = sym (c .before .before .before .before .before .before .before .before .before .before .before .is-good-length .ensures) ∙ not-false _ (c .before .before .before .before .before .before .before .before .before .before .if1 .left) in
     let e = c .before .before .before .before .before .before .before .read-lines .ensures in
     stands-turned _ _ (listing-good _ good) _ _ _ _ (sym (e .0) ∙ c .before .r .given .1) refl
-
-same-length-3 : tie.Need-same-length-3
-same-length-3 c = search needs
-
-same-length-4 : tie.Need-same-length-4
-same-length-4 c = search needs
 
 returns-3 : tie.Need-returns-3
 returns-3 c =
@@ -62,15 +41,15 @@ pub read-listing-spec : {M : Type 1} → statement M
 read-listing-spec =
     tie.close
     (tie.spec
-    is-good-length-requires
+    (λ c κs. search needs)
     returns
     read-lines-requires
-    enum-known-r
-    enum-known-q
+    (λ c. search needs)
+    (λ c. search needs)
     whole-judged-requires
-    same-length
-    same-length-2
+    (λ c. search needs)
+    (λ c. search needs)
     returns-2
-    same-length-3
-    same-length-4
+    (λ c. search needs)
+    (λ c. search needs)
     returns-3)

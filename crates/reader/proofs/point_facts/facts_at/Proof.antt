@@ -3,12 +3,6 @@ use borrow.Author.Needs.{needs}
 use Rattle.reader.proofs.point_facts.facts_at.Statement.{statement}
 use Rattle.reader.proofs.point_facts.facts_at.Tie as tie
 
-first-of-requires : tie.Need-first-of-requires
-first-of-requires c κs = search needs
-
-claims-of-requires : tie.Need-claims-of-requires
-claims-of-requires c κs = search needs
-
 facts-of-requires : tie.Need-facts-of-requires
 facts-of-requires c κs =
     let s = c .before .before .before .before .before .before .before in
@@ -18,4 +12,4 @@ returns : tie.Need-returns
 returns c = rw (← c .before .before .before .before .before .first-of .ensures, ← c .before .before .before .before .claims-of .ensures) (c .facts-of .ensures)
 
 pub facts-at-spec : {M : Type 1} → statement M
-facts-at-spec = tie.close (tie.spec first-of-requires claims-of-requires facts-of-requires returns)
+facts-at-spec = tie.close (tie.spec (λ c κs. search needs) (λ c κs. search needs) facts-of-requires returns)

@@ -21,9 +21,6 @@ Inv-loop rows from n low₀ high₀ stripes₀ m₀ j₀ low high stripes m j =
 abbrev μ-loop : tie.MeasureT-loop
 μ-loop rows from n low₀ high₀ stripes₀ m₀ j₀ low high stripes m j = n - j
 
-unclaimed-requires : tie.Need-unclaimed-requires Inv-loop μ-loop
-unclaimed-requires c κs = search needs
-
 loop-holds : tie.Need-loop-holds Inv-loop μ-loop
 loop-holds c = (
   omega arith,
@@ -45,12 +42,6 @@ with-claim-requires c κs =
     let t = c .before .before .before .before .loop-test .taken in
     (l .inv .2, (rw (c .before .before .before .claim-at .ensures) (s .pre .0 .limited (l .j) t), rw (c .before .before .before .claim-at .ensures, l .inv .3) (gather-room (s .args .rows .now) (s .args .from) (l .j) (s .args .n) greatestStripes t (s .pre .0 .few))))
 
-add-j : tie.Need-add-j Inv-loop μ-loop
-add-j c = omega arith
-
-loop-less : tie.Need-loop-less Inv-loop μ-loop
-loop-less c = omega arith
-
 loop-again : tie.Need-loop-again Inv-loop μ-loop
 loop-again c =
     let l = c .before .before .before .before .before .before .loop in (
@@ -71,12 +62,12 @@ facts-of-spec =
     (tie.spec
     Inv-loop
     μ-loop
-    unclaimed-requires
+    (λ c κs. search needs)
     loop-holds
     add-claim-at
     claim-at-requires
     with-claim-requires
-    add-j
-    loop-less
+    (λ c. omega arith)
+    (λ c. omega arith)
     loop-again
     returns)

@@ -4,23 +4,8 @@ use borrow.Author.Needs.{needs}
 use Rattle.reader.proofs.read.read_bytes.Statement.{statement}
 use Rattle.reader.proofs.read.read_bytes.Tie as tie
 
-is-well-spelled-requires : tie.Need-is-well-spelled-requires
-is-well-spelled-requires c κs = search needs
-
-find-word-requires : tie.Need-find-word-requires
-find-word-requires c κs = search needs
-
-read-fields-requires : tie.Need-read-fields-requires
-read-fields-requires c κs = search needs
-
-read-found-requires : tie.Need-read-found-requires
-read-found-requires c κs = search needs
-
 returns : tie.Need-returns
 returns c = rw (spelled _ _ (sym (c .before .before .before .before .is-well-spelled .ensures) ∙ c .before .before .before .if1 .taken), ← c .before .before .find-word .ensures, ← c .before .read-fields .ensures) (c .read-found .ensures)
-
-refused-requires : tie.Need-refused-requires
-refused-requires c κs = search needs
 
 returns-2 : tie.Need-returns-2
 returns-2 c = rw (misspelled _ _ (sym (c .before .before .is-well-spelled .ensures) ∙ c .before .if1 .left)) (c .refused .ensures)
@@ -29,10 +14,10 @@ pub read-bytes-spec : {M : Type 1} → statement M
 read-bytes-spec =
     tie.close
     (tie.spec
-    is-well-spelled-requires
-    find-word-requires
-    read-fields-requires
-    read-found-requires
+    (λ c κs. search needs)
+    (λ c κs. search needs)
+    (λ c κs. search needs)
+    (λ c κs. search needs)
     returns
-    refused-requires
+    (λ c κs. search needs)
     returns-2)

@@ -4,23 +4,8 @@ use borrow.Author.Needs.{needs}
 use Rattle.reader.proofs.read.read_known.Statement.{statement}
 use Rattle.reader.proofs.read.read_known.Tie as tie
 
-judge-requires : tie.Need-judge-requires
-judge-requires c κs = search needs
-
-enum-known-r : tie.Need-enum-known-r
-enum-known-r c = search needs
-
-refused-requires : tie.Need-refused-requires
-refused-requires c κs = search needs
-
 enum-told : tie.Need-enum-told
 enum-told c = search needs
-
-row-of-requires : tie.Need-row-of-requires
-row-of-requires c κs = search needs
-
-sort-of-requires : tie.Need-sort-of-requires
-sort-of-requires c κs = search needs
 
 returns : tie.Need-returns
 returns c = known-refused _ _ _ _ _ (sym (c .before .before .before .before .judge .ensures) ∙ c .before .before .r .given .1) (c .refused .ensures)
@@ -32,11 +17,11 @@ pub read-known-spec : {M : Type 1} → statement M
 read-known-spec =
     tie.close
     (tie.spec
-    judge-requires
-    enum-known-r
-    refused-requires
+    (λ c κs. search needs)
+    (λ c. search needs)
+    (λ c κs. search needs)
     enum-told
-    row-of-requires
-    sort-of-requires
+    (λ c κs. search needs)
+    (λ c κs. search needs)
     returns
     returns-2)

@@ -19,30 +19,9 @@ Inv-loop listing n rows₀ at₀ p₀ k₀ rows at p k = (k ≤ n) × (length ro
 abbrev μ-loop : tie.MeasureT-loop
 μ-loop listing n rows₀ at₀ p₀ k₀ rows at p k = n - k
 
-begin-requires : tie.Need-begin-requires Inv-loop μ-loop
-begin-requires c κs = search needs
-
 loop-holds : tie.Need-loop-holds Inv-loop μ-loop
 unfolding readTo
 loop-holds c = (omega arith, refl, refl, scanned-none _ _, c .begin .ensures)
-
-mul-a : tie.Need-mul-a Inv-loop μ-loop
-mul-a c = omega arith
-
-add-e : tie.Need-add-e Inv-loop μ-loop
-add-e c = omega arith
-
-add-read-bytes : tie.Need-add-read-bytes Inv-loop μ-loop
-add-read-bytes c = omega arith
-
-sub-read-bytes : tie.Need-sub-read-bytes Inv-loop μ-loop
-sub-read-bytes c = omega arith
-
-part-read-bytes-start : tie.Need-part-read-bytes-start Inv-loop μ-loop
-part-read-bytes-start c = omega arith
-
-part-read-bytes-end : tie.Need-part-read-bytes-end Inv-loop μ-loop
-part-read-bytes-end c = omega arith
 
 read-bytes-requires : tie.Need-read-bytes-requires Inv-loop μ-loop
 read-bytes-requires c κs = simp (length-take, length-drop) (omega arith)
@@ -55,9 +34,6 @@ note-requires c κs = let s = c .before .before .before .before .before .before 
 
 after-requires : tie.Need-after-requires Inv-loop μ-loop
 after-requires c κs = let s = c .before .before .before .before .before .before .before .before .before .before .before .before .before .before .before .before .before in let l = c .before .before .before .before .before .before .before .before .before .before .before .before .loop in (omega arith, rw (l .inv .4) (within (l .rows) (l .at) (l .k) (readTo (s .args .listing .now) (l .k)) (l .inv .3)))
-
-enum-known-p : tie.Need-enum-known-p Inv-loop μ-loop
-enum-known-p c = search needs
 
 same-length : tie.Need-same-length Inv-loop μ-loop
 same-length c = rw (c .before .before .before .before .before .before .before .before .before .before .write-row .ensures) (row-long _ _ _ ∙ c .before .before .before .before .before .before .before .before .before .before .before .before .before .before .before .before .loop .inv .1)
@@ -72,15 +48,6 @@ returns c =
     let line = line-read _ _ _ (c .before .before .before .before .before .before .before .before .before .before .before .before .before .read-bytes .ensures) in
     turned-back (c .before .before .before .before .before .before .before .before .before .before .before .before .before .before .before .before .before .before .before .before .before .args .listing .now) _ _ (suc (l .k)) _ _ (omega arith)
     (rw (progress-next, ← line .sort, ← l .inv .4, ← c .before .before .before .after .ensures) (c .before .p .given .1))
-
-enum-told : tie.Need-enum-told Inv-loop μ-loop
-enum-told c = search needs
-
-add-k : tie.Need-add-k Inv-loop μ-loop
-add-k c = omega arith
-
-loop-less : tie.Need-loop-less Inv-loop μ-loop
-loop-less c = omega arith
 
 loop-again : tie.Need-loop-again Inv-loop μ-loop
 loop-again c =
@@ -116,25 +83,25 @@ read-lines-spec =
     (tie.spec
     Inv-loop
     μ-loop
-    begin-requires
+    (λ c κs. search needs)
     loop-holds
-    mul-a
-    add-e
-    add-read-bytes
-    sub-read-bytes
-    part-read-bytes-start
-    part-read-bytes-end
+    (λ c. omega arith)
+    (λ c. omega arith)
+    (λ c. omega arith)
+    (λ c. omega arith)
+    (λ c. omega arith)
+    (λ c. omega arith)
     read-bytes-requires
     write-row-requires
     note-requires
     after-requires
-    enum-known-p
+    (λ c. search needs)
     same-length
     same-length-2
     returns
-    enum-told
-    add-k
-    loop-less
+    (λ c. search needs)
+    (λ c. omega arith)
+    (λ c. omega arith)
     loop-again
     same-length-3
     same-length-4

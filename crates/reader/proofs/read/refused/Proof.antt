@@ -4,11 +4,8 @@ use borrow.Author.Needs.{needs}
 use Rattle.reader.proofs.read.refused.Statement.{statement}
 use Rattle.reader.proofs.read.refused.Tie as tie
 
-refused-row-requires : tie.Need-refused-row-requires
-refused-row-requires c κs = search needs
-
 returns : tie.Need-returns
 returns c = refused-read _ _ (c .refused-row .ensures) refl
 
 pub refused-spec : {M : Type 1} → statement M
-refused-spec = tie.close (tie.spec refused-row-requires returns)
+refused-spec = tie.close (tie.spec (λ c κs. search needs) returns)

@@ -6,31 +6,10 @@ use borrow.Author.Needs.{needs}
 use Rattle.reader.proofs.scan.after.Statement.{statement}
 use Rattle.reader.proofs.scan.after.Tie as tie
 
-enum-known-p : tie.Need-enum-known-p
-enum-known-p c = search needs
-
-enum-known-p-2 : tie.Need-enum-known-p-2
-enum-known-p-2 c = search needs
-
-enum-known-l : tie.Need-enum-known-l
-enum-known-l c = search needs
-
-enum-known-l-2 : tie.Need-enum-known-l-2
-enum-known-l-2 c = search needs
-
-order-of-requires : tie.Need-order-of-requires
-order-of-requires c κs = search needs
-
 after-claim-requires : tie.Need-after-claim-requires
 after-claim-requires c κs =
     let w : Within (Going (c .before .before .before .before .before .p2 .given .0 .0)) (c .before .before .before .before .before .before .before .args .k) = rw (c .before .before .before .before .before .p2 .given .1) at (c .before .before .before .before .before .before .before .pre .1) in
     (c .before .before .before .before .before .before .before .pre .0, w .1, w .2)
-
-enum-known-l-3 : tie.Need-enum-known-l-3
-enum-known-l-3 c = search needs
-
-order-of-requires-2 : tie.Need-order-of-requires-2
-order-of-requires-2 c κs = search needs
 
 after-claim-requires-2 : tie.Need-after-claim-requires-2
 after-claim-requires-2 c κs =
@@ -40,24 +19,15 @@ after-claim-requires-2 c κs =
 enum-told : tie.Need-enum-told
 enum-told c = search needs
 
-order-of-requires-3 : tie.Need-order-of-requires-3
-order-of-requires-3 c κs = search needs
-
 after-claim-requires-3 : tie.Need-after-claim-requires-3
 after-claim-requires-3 c κs =
     let w : Within (Going (c .before .before .before .before .p2 .given .0 .0)) (c .before .before .before .before .before .before .args .k) = rw (c .before .before .before .before .p2 .given .1) at (c .before .before .before .before .before .before .pre .1) in
     (c .before .before .before .before .before .before .pre .0, w .1, w .2)
 
-enum-told-2 : tie.Need-enum-told-2
-enum-told-2 c = search needs
-
 add-t14 : tie.Need-add-t14
 add-t14 c =
     let w : Within (Going (c .before .before .before .before .p2 .given .0 .0)) (c .before .before .before .before .before .before .args .k) = rw (c .before .before .before .before .p2 .given .1) at (c .before .before .before .before .before .before .pre .1) in
     omega arith
-
-no-order-requires : tie.Need-no-order-requires
-no-order-requires c κs = search needs
 
 returns : tie.Need-returns
 returns c = simp (c .before .p .given .1)
@@ -81,21 +51,21 @@ pub after-spec : {M : Type 1} → statement M
 after-spec =
     tie.close
     (tie.spec
-    enum-known-p
-    enum-known-p-2
-    enum-known-l
-    enum-known-l-2
-    order-of-requires
+    (λ c. search needs)
+    (λ c. search needs)
+    (λ c. search needs)
+    (λ c. search needs)
+    (λ c κs. search needs)
     after-claim-requires
-    enum-known-l-3
-    order-of-requires-2
+    (λ c. search needs)
+    (λ c κs. search needs)
     after-claim-requires-2
     enum-told
-    order-of-requires-3
+    (λ c κs. search needs)
     after-claim-requires-3
-    enum-told-2
+    (λ c. search needs)
     add-t14
-    no-order-requires
+    (λ c κs. search needs)
     returns
     returns-2
     returns-3

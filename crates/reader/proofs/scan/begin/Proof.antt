@@ -2,11 +2,8 @@ use borrow.Author.Needs.{needs}
 use Rattle.reader.proofs.scan.begin.Statement.{statement}
 use Rattle.reader.proofs.scan.begin.Tie as tie
 
-no-order-requires : tie.Need-no-order-requires
-no-order-requires c κs = search needs
-
 returns : tie.Need-returns
 returns c = simp (← c .no-order .ensures)
 
 pub begin-spec : {M : Type 1} → statement M
-begin-spec = tie.close (tie.spec no-order-requires returns)
+begin-spec = tie.close (tie.spec (λ c κs. search needs) returns)

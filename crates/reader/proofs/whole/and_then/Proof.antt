@@ -2,17 +2,8 @@ use borrow.Author.Needs.{needs}
 use Rattle.reader.proofs.whole.and_then.Statement.{statement}
 use Rattle.reader.proofs.whole.and_then.Tie as tie
 
-enum-told : tie.Need-enum-told
-enum-told c = search needs
-
-enum-known-j : tie.Need-enum-known-j
-enum-known-j c = search needs
-
-returns : tie.Need-returns
-returns c = search needs
-
 returns-2 : tie.Need-returns-2
 returns-2 c = simp (c .before .j .given .1)
 
 pub and-then-spec : {M : Type 1} → statement M
-and-then-spec = tie.close (tie.spec enum-told enum-known-j returns returns-2)
+and-then-spec = tie.close (tie.spec (λ c. search needs) (λ c. search needs) (λ c. search needs) returns-2)

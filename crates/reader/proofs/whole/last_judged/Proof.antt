@@ -9,17 +9,8 @@ use borrow.Author.Needs.{needs}
 use Rattle.reader.proofs.whole.last_judged.Statement.{statement}
 use Rattle.reader.proofs.whole.last_judged.Tie as tie
 
-sub-instruction-row : tie.Need-sub-instruction-row
-sub-instruction-row c = search needs
-
 instruction-row-requires : tie.Need-instruction-row-requires
 instruction-row-requires c κs = c .before .before .pre .0 .each _ (omega arith)
-
-instruction-from-requires : tie.Need-instruction-from-requires
-instruction-from-requires c κs = search needs
-
-goes-on-requires : tie.Need-goes-on-requires
-goes-on-requires c κs = search needs
 
 returns : tie.Need-returns
 returns c =
@@ -35,9 +26,9 @@ pub last-judged-spec : {M : Type 1} → statement M
 last-judged-spec =
     tie.close
     (tie.spec
-    sub-instruction-row
+    (λ c. search needs)
     instruction-row-requires
-    instruction-from-requires
-    goes-on-requires
+    (λ c κs. search needs)
+    (λ c κs. search needs)
     returns
     returns-2)

@@ -4,12 +4,6 @@ use borrow.Author.Needs.{needs}
 use Rattle.reader.proofs.whole.own_target_exists.Statement.{statement}
 use Rattle.reader.proofs.whole.own_target_exists.Tie as tie
 
-has-target-requires : tie.Need-has-target-requires
-has-target-requires c κs = search needs
-
-target-exists-requires : tie.Need-target-exists-requires
-target-exists-requires c κs = search needs
-
 returns : tie.Need-returns
 returns c = c .target-exists .ensures ∙ names-own _ _ _ (sym (c .before .before .has-target .ensures) ∙ c .before .if1 .taken)
 
@@ -17,4 +11,4 @@ returns-2 : tie.Need-returns-2
 returns-2 c = names-none _ _ _ (sym (c .before .has-target .ensures) ∙ c .if1 .left)
 
 pub own-target-exists-spec : {M : Type 1} → statement M
-own-target-exists-spec = tie.close (tie.spec has-target-requires target-exists-requires returns returns-2)
+own-target-exists-spec = tie.close (tie.spec (λ c κs. search needs) (λ c κs. search needs) returns returns-2)

@@ -15,9 +15,6 @@ use Rattle.reader.proofs.whole.start_judged.Tie as tie
 facts-at-requires : tie.Need-facts-at-requires
 facts-at-requires c κs = (c .before .before .before .before .before .pre .0 .each 0 (omega arith), none-standing)
 
-is-possible-requires : tie.Need-is-possible-requires
-is-possible-requires c κs = search needs
-
 returns : tie.Need-returns
 returns c =
     let s = c .before .before .before .before .before .before .before .before .before .before in
@@ -34,4 +31,4 @@ returns-2 c =
 
 pub start-judged-spec : {M : Type 1} → statement M
 start-judged-spec =
-    tie.close (tie.spec facts-at-requires is-possible-requires returns line-of-requires returns-2)
+    tie.close (tie.spec facts-at-requires (λ c κs. search needs) returns line-of-requires returns-2)

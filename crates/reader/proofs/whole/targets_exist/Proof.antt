@@ -26,17 +26,8 @@ instruction-row-requires c κs = c .before .before .before .before .pre .each _ 
 line-of-requires : tie.Need-line-of-requires Inv-loop μ-loop
 line-of-requires c κs = let q = c .before .before .before .before .before .pre .each _ (c .before .loop-test .taken) in (q .places, q .few)
 
-own-target-exists-requires : tie.Need-own-target-exists-requires Inv-loop μ-loop
-own-target-exists-requires c κs = search needs
-
-and-then-requires : tie.Need-and-then-requires Inv-loop μ-loop
-and-then-requires c κs = search needs
-
 add-p : tie.Need-add-p Inv-loop μ-loop
 add-p c = let few = c .before .before .before .before .before .before .before .before .pre .few in omega arith
-
-loop-less : tie.Need-loop-less Inv-loop μ-loop
-loop-less c = omega arith
 
 loop-again : tie.Need-loop-again Inv-loop μ-loop
 loop-again c =
@@ -56,9 +47,9 @@ targets-exist-spec =
     loop-holds
     instruction-row-requires
     line-of-requires
-    own-target-exists-requires
-    and-then-requires
+    (λ c κs. search needs)
+    (λ c κs. search needs)
     add-p
-    loop-less
+    (λ c. omega arith)
     loop-again
     returns)

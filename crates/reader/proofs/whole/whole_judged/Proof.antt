@@ -12,9 +12,6 @@ use Rattle.reader.proofs.whole.whole_judged.Tie as tie
 returns : tie.Need-returns
 returns c ps cs h is = whole-open _ _ _ ps cs h _ is (c .if1 .taken)
 
-line-of-requires : tie.Need-line-of-requires
-line-of-requires c κs = search needs
-
 returns-2 : tie.Need-returns-2
 returns-2 c ps cs h is = ap (λ (l : ℕ). refused (TooManyPoints l)) (c .line-of .ensures) ∙ whole-many _ _ _ ps cs h _ is (c .before .before .if1 .left) (c .before .if2 .taken)
 
@@ -27,12 +24,6 @@ last-judged-requires c κs = let some = c .before .before .before .before .befor
 start-judged-requires : tie.Need-start-judged-requires
 start-judged-requires c κs = let some = c .before .before .before .before .before .before .before .pre .some in (record { few = c .before .before .if2 .left; each = λ p b. c .before .before .before .before .before .before .before .pre .each p b (omega arith) }, omega arith)
 
-and-then-requires : tie.Need-and-then-requires
-and-then-requires c κs = search needs
-
-and-then-requires-2 : tie.Need-and-then-requires-2
-and-then-requires-2 c κs = search needs
-
 returns-3 : tie.Need-returns-3
 returns-3 c ps cs h is =
     rw (c .and-then2 .ensures, c .before .and-then .ensures, c .before .before .start-judged .ensures, c .before .before .before .last-judged .ensures, c .before .before .before .before .targets-exist .ensures)
@@ -43,11 +34,11 @@ whole-judged-spec =
     tie.close
     (tie.spec
     returns
-    line-of-requires
+    (λ c κs. search needs)
     returns-2
     targets-exist-requires
     last-judged-requires
     start-judged-requires
-    and-then-requires
-    and-then-requires-2
+    (λ c κs. search needs)
+    (λ c κs. search needs)
     returns-3)

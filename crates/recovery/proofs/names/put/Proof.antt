@@ -18,21 +18,6 @@ abbrev μ-loop : tie.MeasureT-loop
 loop-holds : tie.Need-loop-holds Inv-loop μ-loop
 loop-holds c = (omega arith, refl, paste-zero (c .args .name .now) (c .args .at) (c .args .bytes .now))
 
-shared-slice-read-name : tie.Need-shared-slice-read-name Inv-loop μ-loop
-shared-slice-read-name c = search needs
-
-add-name : tie.Need-add-name Inv-loop μ-loop
-add-name c = omega arith
-
-slice-write-name : tie.Need-slice-write-name Inv-loop μ-loop
-slice-write-name c = omega arith
-
-add-i : tie.Need-add-i Inv-loop μ-loop
-add-i c = search needs
-
-loop-less : tie.Need-loop-less Inv-loop μ-loop
-loop-less c = search needs
-
 loop-again : tie.Need-loop-again Inv-loop μ-loop
 loop-again c =
     let a = c .before .before .before .args in
@@ -41,9 +26,6 @@ loop-again c =
       search needs,
       rw (l .inv .2, add-one) (paste-suc (a .name .now) (a .at) (a .bytes .now) (l .i) 0 (omega (arith, c .before .before .before .pre)) (omega arith)),
     )
-
-same-length : tie.Need-same-length Inv-loop μ-loop
-same-length c = search needs
 
 returns : tie.Need-returns Inv-loop μ-loop
 returns c =
@@ -58,11 +40,11 @@ put-spec =
     Inv-loop
     μ-loop
     loop-holds
-    shared-slice-read-name
-    add-name
-    slice-write-name
-    add-i
-    loop-less
+    (λ c. search needs)
+    (λ c. omega arith)
+    (λ c. omega arith)
+    (λ c. search needs)
+    (λ c. search needs)
     loop-again
-    same-length
+    (λ c. search needs)
     returns)

@@ -20,12 +20,6 @@ loop-holds c = (omega arith, every-none (c .args .values .now) (c .args .stripes
 stripe-holds-requires : tie.Need-stripe-holds-requires Inv-loop μ-loop
 stripe-holds-requires c κs = let h = c .before .before .pre .1 in let t = c .loop-test .taken in (c .before .before .pre .0, (h .parts, (omega (arith, h .few), h .bytes (c .before .loop .i) t)))
 
-add-i : tie.Need-add-i Inv-loop μ-loop
-add-i c = omega arith
-
-loop-less : tie.Need-loop-less Inv-loop μ-loop
-loop-less c = omega arith
-
 loop-again : tie.Need-loop-again Inv-loop μ-loop
 loop-again c = (omega arith, rw (c .stripe-holds .ensures, c .before .before .loop .inv .1) (every-more (c .before .before .before .args .values .now) (c .before .before .before .args .stripes .now) (c .before .before .loop .i)))
 
@@ -40,7 +34,7 @@ all-hold-spec =
     μ-loop
     loop-holds
     stripe-holds-requires
-    add-i
-    loop-less
+    (λ c. omega arith)
+    (λ c. omega arith)
     loop-again
     returns)

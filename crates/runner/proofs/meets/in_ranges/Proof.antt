@@ -22,12 +22,6 @@ loop-holds c = (omega arith, refl)
 in-range-requires : tie.Need-in-range-requires Inv-loop μ-loop
 in-range-requires c κs = (c .before .before .pre, c .loop-test .taken)
 
-add-v : tie.Need-add-v Inv-loop μ-loop
-add-v c = omega arith
-
-loop-less : tie.Need-loop-less Inv-loop μ-loop
-loop-less c = omega arith
-
 loop-again : tie.Need-loop-again Inv-loop μ-loop
 unfolding everyBelow
 loop-again c = (omega arith, rw (c .in-range .ensures, c .before .before .loop .inv .1, add-one))
@@ -44,7 +38,7 @@ in-ranges-spec =
     μ-loop
     loop-holds
     in-range-requires
-    add-v
-    loop-less
+    (λ c. omega arith)
+    (λ c. omega arith)
     loop-again
     returns)

@@ -10,15 +10,6 @@ returns c = (simp (lt-ltb _ _ (c .if1 .taken)), omega arith)
 returns-2 : tie.Need-returns-2
 returns-2 c = (simp (lt-ltb _ _ (c .if2 .taken), le-ltb _ _ (c .before .if1 .left)), omega arith)
 
-mul-m : tie.Need-mul-m
-mul-m c = search needs
-
-cast-m : tie.Need-cast-m
-cast-m c = search needs
-
-add-m : tie.Need-add-m
-add-m c = search needs
-
 returns-3 : tie.Need-returns-3
 returns-3 c = (simp (lt-ltb _ _ (c .if3 .taken), le-ltb _ _ (c .before .if2 .left), le-ltb _ _ (c .before .before .if1 .left)), omega arith)
 
@@ -26,4 +17,4 @@ returns-4 : tie.Need-returns-4
 returns-4 c = (simp (le-ltb _ _ (c .if3 .left), le-ltb _ _ (c .before .if2 .left), le-ltb _ _ (c .before .before .if1 .left)), omega arith)
 
 pub with-digit-spec : {M : Type 1} → statement M
-with-digit-spec = tie.close (tie.spec returns returns-2 mul-m cast-m add-m returns-3 returns-4)
+with-digit-spec = tie.close (tie.spec returns returns-2 (λ c. search needs) (λ c. search needs) (λ c. search needs) returns-3 returns-4)

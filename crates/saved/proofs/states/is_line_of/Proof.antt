@@ -7,26 +7,11 @@ use borrow.Author.Needs.{needs}
 use Rattle.saved.proofs.states.is_line_of.Statement.{statement}
 use Rattle.saved.proofs.states.is_line_of.Tie as tie
 
-is-well-spelled-requires : tie.Need-is-well-spelled-requires
-is-well-spelled-requires c κs = search needs
-
 returns : tie.Need-returns
 returns c = not-spelled _ _ (sym (c .before .is-well-spelled .ensures) ∙ not-true _ (c .if1 .taken))
 
-begins-with-requires : tie.Need-begins-with-requires
-begins-with-requires c κs = search needs
-
 returns-2 : tie.Need-returns-2
 returns-2 c = not-begun _ _ (sym (c .before .before .before .is-well-spelled .ensures) ∙ not-false _ (c .before .before .if1 .left)) (sym (c .before .begins-with .ensures) ∙ not-true _ (c .if2 .taken))
-
-read-fields-requires : tie.Need-read-fields-requires
-read-fields-requires c κs = search needs
-
-judge-requires : tie.Need-judge-requires
-judge-requires c κs = search needs
-
-is-refused-requires : tie.Need-is-refused-requires
-is-refused-requires c κs = search needs
 
 returns-3 : tie.Need-returns-3
 returns-3 c =
@@ -37,11 +22,11 @@ pub is-line-of-spec : {M : Type 1} → statement M
 is-line-of-spec =
     tie.close
     (tie.spec
-    is-well-spelled-requires
+    (λ c κs. search needs)
     returns
-    begins-with-requires
+    (λ c κs. search needs)
     returns-2
-    read-fields-requires
-    judge-requires
-    is-refused-requires
+    (λ c κs. search needs)
+    (λ c κs. search needs)
+    (λ c κs. search needs)
     returns-3)

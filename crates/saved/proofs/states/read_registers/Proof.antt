@@ -18,15 +18,6 @@ loop-holds : tie.Need-loop-holds Inv-loop μ-loop
 unfolding registersTo
 loop-holds c = (omega arith, refl)
 
-with-register-requires : tie.Need-with-register-requires Inv-loop μ-loop
-with-register-requires c κs = search needs
-
-add-v : tie.Need-add-v Inv-loop μ-loop
-add-v c = omega arith
-
-loop-less : tie.Need-loop-less Inv-loop μ-loop
-loop-less c = omega arith
-
 loop-again : tie.Need-loop-again Inv-loop μ-loop
 loop-again c = (omega arith, rw (c .with-register .ensures, c .before .before .loop .inv .1, registers-next))
 
@@ -36,4 +27,4 @@ returns c = let e : c .before .loop .v ≡ Limits.registers = omega arith in c .
 pub read-registers-spec : {M : Type 1} → statement M
 read-registers-spec =
     tie.close
-    (tie.spec Inv-loop μ-loop loop-holds with-register-requires add-v loop-less loop-again returns)
+    (tie.spec Inv-loop μ-loop loop-holds (λ c κs. search needs) (λ c. omega arith) (λ c. omega arith) loop-again returns)

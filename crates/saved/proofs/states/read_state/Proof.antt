@@ -7,26 +7,8 @@ use Rattle.saved.proofs.states.read_state.Tie as tie
 returns : tie.Need-returns
 returns c = saved-short _ (c .if1 .taken)
 
-read-registers-requires : tie.Need-read-registers-requires
-read-registers-requires c κs = search needs
-
-sub-target-on : tie.Need-sub-target-on
-sub-target-on c = search needs
-
-part-target-on-start : tie.Need-part-target-on-start
-part-target-on-start c = search needs
-
-part-target-on-end : tie.Need-part-target-on-end
-part-target-on-end c = search needs
-
-target-on-requires : tie.Need-target-on-requires
-target-on-requires c κs = search needs
-
 enum-told : tie.Need-enum-told
 enum-told c = search needs
-
-enum-known-point : tie.Need-enum-known-point
-enum-known-point c = search needs
 
 returns-2 : tie.Need-returns-2
 returns-2 c = saved-nowhere _ (c .before .before .before .before .before .before .if1 .left) _ (c .before .before .target-on .ensures) (c .enum-told .given .1)
@@ -39,12 +21,12 @@ read-state-spec =
     tie.close
     (tie.spec
     returns
-    read-registers-requires
-    sub-target-on
-    part-target-on-start
-    part-target-on-end
-    target-on-requires
+    (λ c κs. search needs)
+    (λ c. search needs)
+    (λ c. search needs)
+    (λ c. search needs)
+    (λ c κs. search needs)
     enum-told
-    enum-known-point
+    (λ c. search needs)
     returns-2
     returns-3)

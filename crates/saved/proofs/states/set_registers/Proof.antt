@@ -19,26 +19,8 @@ loop-holds : tie.Need-loop-holds Inv-loop μ-loop
 unfolding registersSet
 loop-holds c = (omega arith, refl, refl)
 
-mul-set-register : tie.Need-mul-set-register Inv-loop μ-loop
-mul-set-register c = omega arith
-
-array-read-set-register : tie.Need-array-read-set-register Inv-loop μ-loop
-array-read-set-register c = search needs
-
-set-register-requires : tie.Need-set-register-requires Inv-loop μ-loop
-set-register-requires c κs = omega arith
-
-add-v : tie.Need-add-v Inv-loop μ-loop
-add-v c = omega arith
-
-loop-less : tie.Need-loop-less Inv-loop μ-loop
-loop-less c = omega arith
-
 loop-again : tie.Need-loop-again Inv-loop μ-loop
 loop-again c = (omega arith, c .before .before .set-register .kept .0 ∙ c .before .before .before .before .before .loop .inv .1, rw (c .before .before .set-register .ensures, c .before .before .before .before .before .loop .inv .2, registers-set-next))
-
-same-length : tie.Need-same-length Inv-loop μ-loop
-same-length c = omega arith
 
 returns : tie.Need-returns Inv-loop μ-loop
 returns c = let e : c .before .loop .v ≡ Limits.registers = omega arith in c .before .loop .inv .2 ∙ ap (registersSet _ _) e
@@ -50,11 +32,11 @@ set-registers-spec =
     Inv-loop
     μ-loop
     loop-holds
-    mul-set-register
-    array-read-set-register
-    set-register-requires
-    add-v
-    loop-less
+    (λ c. omega arith)
+    (λ c. search needs)
+    (λ c κs. omega arith)
+    (λ c. omega arith)
+    (λ c. omega arith)
     loop-again
-    same-length
+    (λ c. omega arith)
     returns)

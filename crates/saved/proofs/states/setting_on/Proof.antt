@@ -7,26 +7,8 @@ use borrow.Author.Needs.{needs}
 use Rattle.saved.proofs.states.setting_on.Statement.{statement}
 use Rattle.saved.proofs.states.setting_on.Tie as tie
 
-is-line-of-requires : tie.Need-is-line-of-requires
-is-line-of-requires c κs = search needs
-
 returns : tie.Need-returns
 returns c = no-setting _ _ (sym (c .before .is-line-of .ensures) ∙ not-true _ (c .if1 .taken))
-
-read-fields-requires : tie.Need-read-fields-requires
-read-fields-requires c κs = search needs
-
-array-copy-out-f1 : tie.Need-array-copy-out-f1
-array-copy-out-f1 c = search needs
-
-array-copy-out-f6 : tie.Need-array-copy-out-f6
-array-copy-out-f6 c = search needs
-
-value-requires : tie.Need-value-requires
-value-requires c κs = search needs
-
-value-requires-2 : tie.Need-value-requires-2
-value-requires-2 c κs = search needs
 
 cast-t18 : tie.Need-cast-t18
 cast-t18 c = omega (arith, rw (← c .before .before .before .before .before .read-fields .ensures, ← c .value2 .ensures) at (setting-fits _ (sym (c .before .before .before .before .before .before .before .is-line-of .ensures) ∙ not-false _ (c .before .before .before .before .before .before .if1 .left))))
@@ -44,13 +26,13 @@ pub setting-on-spec : {M : Type 1} → statement M
 setting-on-spec =
     tie.close
     (tie.spec
-    is-line-of-requires
+    (λ c κs. search needs)
     returns
-    read-fields-requires
-    array-copy-out-f1
-    array-copy-out-f6
-    value-requires
-    value-requires-2
+    (λ c κs. search needs)
+    (λ c. search needs)
+    (λ c. search needs)
+    (λ c κs. search needs)
+    (λ c κs. search needs)
     cast-t18
     returns-2
     returns-3)

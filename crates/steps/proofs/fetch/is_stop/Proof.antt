@@ -4,11 +4,8 @@ use borrow.Author.Needs.{needs}
 use Rattle.steps.proofs.fetch.is_stop.Statement.{statement}
 use Rattle.steps.proofs.fetch.is_stop.Tie as tie
 
-kind-at-requires : tie.Need-kind-at-requires
-kind-at-requires c κs = search needs
-
 returns : tie.Need-returns
 returns c = rw (c .kind-at .ensures) (sym (stop-kind _))
 
 pub is-stop-spec : {M : Type 1} → statement M
-is-stop-spec = tie.close (tie.spec kind-at-requires returns)
+is-stop-spec = tie.close (tie.spec (λ c κs. search needs) returns)

@@ -8,9 +8,6 @@ enum-told c = search needs
 load-requires : tie.Need-load-requires
 load-requires c κs = rw (c .enum-told .given .1) at (c .before .before .before .before .pre)
 
-enum-told-2 : tie.Need-enum-told-2
-enum-told-2 c = search needs
-
 load-requires-2 : tie.Need-load-requires-2
 load-requires-2 c κs = rw (c .enum-told2 .given .1) at (c .before .before .before .before .pre)
 
@@ -22,4 +19,4 @@ returns-2 c = rw (c .before .enum-told2 .given .1) (c .load2 .ensures)
 
 pub load-from-spec : {M : Type 1} → statement M
 load-from-spec =
-    tie.close (tie.spec enum-told load-requires enum-told-2 load-requires-2 returns returns-2)
+    tie.close (tie.spec enum-told load-requires (λ c. search needs) load-requires-2 returns returns-2)

@@ -8,20 +8,8 @@ use Rattle.steps.proofs.WrittenValue.{written}
 use Rattle.steps.proofs.step.load_to.Statement.{statement}
 use Rattle.steps.proofs.step.load_to.Tie as tie
 
-mul-x : tie.Need-mul-x
-mul-x c = search needs
-
-element-copy-out-x : tie.Need-element-copy-out-x
-element-copy-out-x c = search needs
-
 address-requires : tie.Need-address-requires
 address-requires c κs = let short = table-short (c .before .before .before .args .access .table) (c .before .before .before .args .trays .now) (c .before .before .before .args .results .now) 18446744073709551616 (omega arith) (omega arith) in omega arith
-
-load-from-requires : tie.Need-load-from-requires
-load-from-requires c κs = search needs
-
-put-requires : tie.Need-put-requires
-put-requires c κs = search needs
 
 returns : tie.Need-returns
 returns c = written (c .put .ensures) (c .before .before .load-from .ensures ∙ ap (readBytes _ _) (c .before .before .before .address .ensures))
@@ -29,4 +17,4 @@ returns c = written (c .put .ensures) (c .before .before .load-from .ensures ∙
 pub load-to-spec : {M : Type 1} → statement M
 load-to-spec =
     tie.close
-    (tie.spec mul-x element-copy-out-x address-requires load-from-requires put-requires returns)
+    (tie.spec (λ c. search needs) (λ c. search needs) address-requires (λ c κs. search needs) (λ c κs. search needs) returns)

@@ -17,23 +17,8 @@ abbrev μ-loop : tie.MeasureT-loop
 loop-holds : tie.Need-loop-holds Inv-loop μ-loop
 loop-holds c = copied-none _ _ Limits.registers (search needs)
 
-mul-registers : tie.Need-mul-registers Inv-loop μ-loop
-mul-registers c = omega arith
-
-array-read-registers : tie.Need-array-read-registers Inv-loop μ-loop
-array-read-registers c = search needs
-
-mul-registers-2 : tie.Need-mul-registers-2 Inv-loop μ-loop
-mul-registers-2 c = omega arith
-
 array-write-registers : tie.Need-array-write-registers Inv-loop μ-loop
 array-write-registers c = let l = c .before .loop .inv .long in omega arith
-
-add-i : tie.Need-add-i Inv-loop μ-loop
-add-i c = omega arith
-
-loop-less : tie.Need-loop-less Inv-loop μ-loop
-loop-less c = omega arith
 
 loop-again : tie.Need-loop-again Inv-loop μ-loop
 loop-again c = copied-more (c .before .loop .inv) (c .loop-test .taken) (omega arith) (let l : length (c .before .before .args .t1) ≡ Limits.variables = search needs in omega arith)
@@ -48,11 +33,11 @@ registers-of-spec =
     Inv-loop
     μ-loop
     loop-holds
-    mul-registers
-    array-read-registers
-    mul-registers-2
+    (λ c. omega arith)
+    (λ c. search needs)
+    (λ c. omega arith)
     array-write-registers
-    add-i
-    loop-less
+    (λ c. omega arith)
+    (λ c. omega arith)
     loop-again
     returns)

@@ -15,35 +15,14 @@ Inv-loop sizes values₀ i₀ values i = Followed Limits.registers values₀ siz
 abbrev μ-loop : tie.MeasureT-loop
 μ-loop sizes values₀ i₀ values i = 2 - i
 
-with-registers-requires : tie.Need-with-registers-requires Inv-loop μ-loop
-with-registers-requires c κs = search needs
-
 loop-holds : tie.Need-loop-holds Inv-loop μ-loop
 loop-holds c =
     let two : length (c .before .args .t2) ≡ 2 = search needs in
     let long : length (c .with-registers .result) ≡ Limits.variables = search needs in
     followed-none Limits.registers _ _ (omega arith)
 
-mul-values : tie.Need-mul-values Inv-loop μ-loop
-mul-values c = omega arith
-
-array-read-values : tie.Need-array-read-values Inv-loop μ-loop
-array-read-values c = search needs
-
-add-values : tie.Need-add-values Inv-loop μ-loop
-add-values c = omega arith
-
-mul-values-2 : tie.Need-mul-values-2 Inv-loop μ-loop
-mul-values-2 c = omega arith
-
 array-write-values : tie.Need-array-write-values Inv-loop μ-loop
 array-write-values c = let l = c .before .loop .inv .long in let two : length (c .before .before .before .args .t2) ≡ 2 = search needs in omega arith
-
-add-i : tie.Need-add-i Inv-loop μ-loop
-add-i c = omega arith
-
-loop-less : tie.Need-loop-less Inv-loop μ-loop
-loop-less c = omega arith
 
 loop-again : tie.Need-loop-again Inv-loop μ-loop
 loop-again c = let two : length (c .before .before .before .args .t2) ≡ 2 = search needs in followed-more (c .before .loop .inv) (omega arith)
@@ -59,14 +38,14 @@ values-of-spec =
     (tie.spec
     Inv-loop
     μ-loop
-    with-registers-requires
+    (λ c κs. search needs)
     loop-holds
-    mul-values
-    array-read-values
-    add-values
-    mul-values-2
+    (λ c. omega arith)
+    (λ c. search needs)
+    (λ c. omega arith)
+    (λ c. omega arith)
     array-write-values
-    add-i
-    loop-less
+    (λ c. omega arith)
+    (λ c. omega arith)
     loop-again
     returns)

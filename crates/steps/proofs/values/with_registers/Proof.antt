@@ -17,23 +17,8 @@ abbrev μ-loop : tie.MeasureT-loop
 loop-holds : tie.Need-loop-holds Inv-loop μ-loop
 loop-holds c = copied-none _ _ Limits.variables (search needs)
 
-mul-values : tie.Need-mul-values Inv-loop μ-loop
-mul-values c = omega arith
-
-array-read-values : tie.Need-array-read-values Inv-loop μ-loop
-array-read-values c = search needs
-
-mul-values-2 : tie.Need-mul-values-2 Inv-loop μ-loop
-mul-values-2 c = omega arith
-
 array-write-values : tie.Need-array-write-values Inv-loop μ-loop
 array-write-values c = let l = c .before .loop .inv .long in omega arith
-
-add-i : tie.Need-add-i Inv-loop μ-loop
-add-i c = omega arith
-
-loop-less : tie.Need-loop-less Inv-loop μ-loop
-loop-less c = omega arith
 
 loop-again : tie.Need-loop-again Inv-loop μ-loop
 loop-again c = copied-more (c .before .loop .inv) (c .loop-test .taken) (omega arith) (let l : length (c .before .before .args .t1) ≡ Limits.registers = search needs in omega arith)
@@ -48,11 +33,11 @@ with-registers-spec =
     Inv-loop
     μ-loop
     loop-holds
-    mul-values
-    array-read-values
-    mul-values-2
+    (λ c. omega arith)
+    (λ c. search needs)
+    (λ c. omega arith)
     array-write-values
-    add-i
-    loop-less
+    (λ c. omega arith)
+    (λ c. omega arith)
     loop-again
     returns)
