@@ -21,15 +21,8 @@ use Rattle.decoded.proofs.RowInstructions.{none-named}
 use Rattle.reader.specs.Points.{pointIn, pointsIn, Placed, Holds}
 use Rattle.reader.proofs.PlacedPoints.{points-at}
 use Rattle.model.specs.Answers.{isRefused}
+use Rattle.model.proofs.Judgements.{accepted, stays-refused}
 use Rattle.checker.proofs.FirstRefusal.{refused-stays}
-
-accepted : (j : Judgement) → isRefused j ≡ false → j ≡ Accepted
-accepted Accepted e = refl
-accepted (refused r) e = absurd (false≢true (sym e))
-
-stays-refused : (j k : Judgement) → isRefused j ≡ true → (j andThen k) ≡ j
-stays-refused Accepted k e = absurd (false≢true e)
-stays-refused (refused r) k e = refl
 
 then-accepted : (j : Judgement) → (j andThen Accepted) ≡ j
 then-accepted Accepted = refl

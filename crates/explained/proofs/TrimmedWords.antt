@@ -1,7 +1,7 @@
 -- Without the spaces at their right, the texts that the code holds are the words. Assumes nothing.
 use mathlib.Core.Path.{_≡_, refl}
 use Rattle.model.specs.declared.answers.Refusal.{Refusal}
-use Rattle.model.specs.declared.answers.Refusal.the-variants.{ListingLength, LineBytes, UnknownWord, FieldShape, NumberLimits, ClaimOrder, LastLineClaim, TooManyPoints, NoSuchTarget, NoEnd, EmptyStart, DivisorMayBeZero, AccessMayLeave, ClaimMayFail, TableLength, NoSuchPoint, ClaimsNotMet}
+use Rattle.model.specs.declared.answers.Refusal.the-variants.{ListingLength, LineBytes, UnknownWord, FieldShape, NumberLimits, ClaimOrder, LastLineClaim, TooManyPoints, NoSuchTarget, NoEnd, EmptyStart, DivisorMayBeZero, AccessMayLeave, ClaimMayFail, TableLength, NoSuchPoint, ClaimsNotMet, NoRoom}
 use Rattle.explained.specs.Explanation.{meaningOf, adviceOf, padded, trimmedTo, trimmedText}
 
 pub meaning-trimmed : (r : Refusal) → trimmedText (padded 80 (meaningOf r)) ≡ meaningOf r
@@ -23,6 +23,7 @@ meaning-trimmed (ClaimMayFail l c) = refl
 meaning-trimmed TableLength = refl
 meaning-trimmed NoSuchPoint = refl
 meaning-trimmed ClaimsNotMet = refl
+meaning-trimmed NoRoom = refl
 
 pub advice-trimmed : (r : Refusal) → trimmedText (padded 80 (adviceOf r)) ≡ adviceOf r
 unfolding trimmedTo
@@ -43,3 +44,4 @@ advice-trimmed (ClaimMayFail l c) = refl
 advice-trimmed TableLength = refl
 advice-trimmed NoSuchPoint = refl
 advice-trimmed ClaimsNotMet = refl
+advice-trimmed NoRoom = refl

@@ -95,6 +95,11 @@ const CLAIMS_NOT_MET: RefusalWords = RefusalWords {
     advice: *b"compare the registers and the sizes of the tables with the claims there         ",
 };
 
+const NO_ROOM: RefusalWords = RefusalWords {
+    meaning: *b"the listing has no room for the line                                            ",
+    advice: *b"lend more bytes; lines count from 1 to 1,638                                    ",
+};
+
 // The words of a refusal.
 pub fn words(r: Refusal) -> RefusalWords
     ensures { λ x. ⌜ (x .meaning ≡ padded 80 (meaningOf r)) × (x .advice ≡ padded 80 (adviceOf r)) ⌝ }
@@ -117,5 +122,6 @@ pub fn words(r: Refusal) -> RefusalWords
         Refusal::TableLength => TABLE_LENGTH,
         Refusal::NoSuchPoint => NO_SUCH_POINT,
         Refusal::ClaimsNotMet => CLAIMS_NOT_MET,
+        Refusal::NoRoom => NO_ROOM,
     }
 }

@@ -3,6 +3,7 @@ use columns::fours;
 use model::text::FoundWord;
 use model::text::Word;
 ghost use mathlib.Core.Path.{_≡_};
+ghost use Prim.Native.Nat.{_≤_};
 ghost use lib.ListN.{length, drop};
 ghost use Rattle.model.specs.Words.{textOf, begins, words, wordAmong};
 
@@ -62,7 +63,7 @@ pub fn text(w: Word) -> [u8; 4]
 
 // The line begins with the four bytes of the word.
 pub fn begins_with(l: &[u8], w: Word) -> bool
-    requires { ⌜ length (now l) ≡ 40 ⌝ }
+    requires { ⌜ 4 ≤ length (now l) ⌝ }
     ensures { λ r. ⌜ r ≡ begins (now (l .entry)) (textOf w) ⌝ }
 {
     let t = text(w);
@@ -71,7 +72,7 @@ pub fn begins_with(l: &[u8], w: Word) -> bool
 
 // The word of a line. The functions below go on in the order of the words.
 pub fn find_word(l: &[u8]) -> FoundWord
-    requires { ⌜ length (now l) ≡ 40 ⌝ }
+    requires { ⌜ 4 ≤ length (now l) ⌝ }
     ensures { λ r. ⌜ r ≡ wordAmong words (now (l .entry)) ⌝ }
 {
     if begins_with(l, Word::Stop) {
@@ -88,7 +89,7 @@ pub fn find_word(l: &[u8]) -> FoundWord
 
 // The word of a line, from ADDW on.
 fn find_arithmetic(l: &[u8]) -> FoundWord
-    requires { ⌜ length (now l) ≡ 40 ⌝ }
+    requires { ⌜ 4 ≤ length (now l) ⌝ }
     ensures { λ r. ⌜ r ≡ wordAmong (drop 3 words) (now (l .entry)) ⌝ }
 {
     if begins_with(l, Word::Addw) {
@@ -108,7 +109,7 @@ fn find_arithmetic(l: &[u8]) -> FoundWord
 
 // The word of a line, from LOAD on.
 fn find_access(l: &[u8]) -> FoundWord
-    requires { ⌜ length (now l) ≡ 40 ⌝ }
+    requires { ⌜ 4 ≤ length (now l) ⌝ }
     ensures { λ r. ⌜ r ≡ wordAmong (drop 7 words) (now (l .entry)) ⌝ }
 {
     if begins_with(l, Word::Load) {
@@ -122,7 +123,7 @@ fn find_access(l: &[u8]) -> FoundWord
 
 // The word of a line, from JUMP on.
 fn find_jump(l: &[u8]) -> FoundWord
-    requires { ⌜ length (now l) ≡ 40 ⌝ }
+    requires { ⌜ 4 ≤ length (now l) ⌝ }
     ensures { λ r. ⌜ r ≡ wordAmong (drop 9 words) (now (l .entry)) ⌝ }
 {
     if begins_with(l, Word::Jump) {
@@ -139,7 +140,7 @@ fn find_jump(l: &[u8]) -> FoundWord
 
 // The word of a line, from LEAS on.
 fn find_claim(l: &[u8]) -> FoundWord
-    requires { ⌜ length (now l) ≡ 40 ⌝ }
+    requires { ⌜ 4 ≤ length (now l) ⌝ }
     ensures { λ r. ⌜ r ≡ wordAmong (drop 12 words) (now (l .entry)) ⌝ }
 {
     if begins_with(l, Word::Leas) {

@@ -1,4 +1,5 @@
 pub mod Tests
+pub mod Judgements
 pub mod Meaning
 pub mod Follows
 pub mod Ranges

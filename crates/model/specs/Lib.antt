@@ -9,6 +9,7 @@ pub mod Lines
 pub mod Facts
 pub mod Limited
 pub mod Listing
+pub mod Writing
 pub mod Machine
 pub mod Transfer
 pub mod Follows

@@ -1,5 +1,5 @@
 -- The counts and limits of document 01, each under one name.
-use Prim.Native.Nat.{ℕ, _+_}
+use Prim.Native.Nat.{ℕ, _+_, _/_}
 
 -- the registers, variables 0 to 15
 abbrev pub registers : ℕ
@@ -60,3 +60,7 @@ lineBytes = 40
 -- the greatest number of bytes of a listing
 abbrev pub greatestListing : ℕ
 greatestListing = 65520
+
+-- the greatest number of lines of a listing
+abbrev pub greatestLines : ℕ
+greatestLines = greatestListing / lineBytes

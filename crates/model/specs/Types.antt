@@ -31,7 +31,7 @@ pub use Rattle.model.specs.declared.claims.Claim.the-variants.{Leas, Mos
 pub use Rattle.model.specs.declared.claims.Line.{Line}
 pub use Rattle.model.specs.declared.claims.Line.the-variants.{Refused as refusedLine, Claim as claimLine, Instruction as instructionLine}
 pub use Rattle.model.specs.declared.answers.Refusal.{Refusal}
-pub use Rattle.model.specs.declared.answers.Refusal.the-variants.{ListingLength, LineBytes, UnknownWord, FieldShape, NumberLimits, ClaimOrder, LastLineClaim, TooManyPoints, NoSuchTarget, NoEnd, EmptyStart, DivisorMayBeZero, AccessMayLeave, ClaimMayFail, TableLength, NoSuchPoint, ClaimsNotMet}
+pub use Rattle.model.specs.declared.answers.Refusal.the-variants.{ListingLength, LineBytes, UnknownWord, FieldShape, NumberLimits, ClaimOrder, LastLineClaim, TooManyPoints, NoSuchTarget, NoEnd, EmptyStart, DivisorMayBeZero, AccessMayLeave, ClaimMayFail, TableLength, NoSuchPoint, ClaimsNotMet, NoRoom}
 pub use Rattle.model.specs.declared.answers.Judgement.{Judgement}
 pub use Rattle.model.specs.declared.answers.Judgement.the-variants.{Accepted, Refused as refused}
 pub use Rattle.model.specs.declared.answers.Verdict.{Verdict}

@@ -3,7 +3,7 @@ use crate::machine::State;
 ghost use mathlib.Core.Path.{_≡_};
 ghost use Rattle.model.specs.Answers.{isRefused};
 
-// Why a listing, a state or a call is turned back: a case for each number from 1 to 17, in their order, with the lines that it names.
+// Why a listing, a state or a call is turned back: a case for each number from 1 to 18, in their order, with the lines that it names.
 pub enum Refusal {
     ListingLength,
     LineBytes { line: usize },
@@ -22,6 +22,7 @@ pub enum Refusal {
     TableLength,
     NoSuchPoint,
     ClaimsNotMet,
+    NoRoom,
 }
 
 // Whether something is turned back.

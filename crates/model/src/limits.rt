@@ -53,9 +53,12 @@ pub const LINE_BYTES: usize = 40;
 // The greatest number of bytes of a listing.
 pub const GREATEST_LISTING: usize = 65_520;
 
+// The greatest number of lines of a listing.
+pub const GREATEST_LINES: usize = 1_638;
+
 // All of them, in the order of the definitions.
-pub fn all() -> [u64; 15]
-    ensures { λ r. ⌜ r ≡ Limits.registers ∷ Limits.tables ∷ Limits.variables ∷ Limits.blankVariable ∷ Limits.MAX ∷ Limits.modulus ∷ Limits.greatestSize ∷ Limits.greatestScale ∷ Limits.greatestOffset ∷ Limits.greatestBound ∷ Limits.greatestPoints ∷ Limits.greatestStripes ∷ Limits.greatestLinks ∷ Limits.lineBytes ∷ Limits.greatestListing ∷ [] ⌝ }
+pub fn all() -> [u64; 16]
+    ensures { λ r. ⌜ r ≡ Limits.registers ∷ Limits.tables ∷ Limits.variables ∷ Limits.blankVariable ∷ Limits.MAX ∷ Limits.modulus ∷ Limits.greatestSize ∷ Limits.greatestScale ∷ Limits.greatestOffset ∷ Limits.greatestBound ∷ Limits.greatestPoints ∷ Limits.greatestStripes ∷ Limits.greatestLinks ∷ Limits.lineBytes ∷ Limits.greatestListing ∷ Limits.greatestLines ∷ [] ⌝ }
 {
     [
         REGISTERS as u64,
@@ -73,5 +76,6 @@ pub fn all() -> [u64; 15]
         GREATEST_LINKS as u64,
         LINE_BYTES as u64,
         GREATEST_LISTING as u64,
+        GREATEST_LINES as u64,
     ]
 }

@@ -25,6 +25,10 @@ abbrev pub judgedPlace : Judgement → ℕ
 judgedPlace Accepted = 0
 judgedPlace (refused r) = placeOf r
 
+-- the answer of a call whose refusals have no second place: number and place
+abbrev pub judgedAnswer : Judgement → List ℕ
+judgedAnswer j = judgedNumber j ∷ judgedPlace j ∷ []
+
 -- the answer for claim lines: number and place, then offset and length of the part. No refusal of that call has a second place
 abbrev pub partAnswer : ClaimPart → List ℕ
 partAnswer c = judgedNumber (c .judgement) ∷ judgedPlace (c .judgement) ∷ c .offset ∷ c .length ∷ []

@@ -5,7 +5,7 @@ use model::answers::Judgement;
 use model::answers::Report;
 use model::answers::Verdict;
 ghost use mathlib.Core.Path.{_≡_};
-ghost use Rattle.output.specs.Arrays.{answerOf, partAnswer, runAnswer};
+ghost use Rattle.output.specs.Arrays.{answerOf, judgedAnswer, partAnswer, runAnswer};
 
 // The checker's answer as four numbers.
 pub fn verdict_numbers(v: Verdict) -> [u64; 4]
@@ -19,6 +19,19 @@ pub fn verdict_numbers(v: Verdict) -> [u64; 4]
         Verdict::Refused(r) => {
             let x = numbers(r);
             [x.number, x.place, x.second, 0]
+        }
+    }
+}
+
+// Whether a call is turned back, as two numbers.
+pub fn judgement_numbers(j: Judgement) -> [u64; 2]
+    ensures { λ r. ⌜ r ≡ judgedAnswer j ⌝ }
+{
+    match j {
+        Judgement::Accepted => [0, 0],
+        Judgement::Refused(r) => {
+            let x = numbers(r);
+            [x.number, x.place]
         }
     }
 }

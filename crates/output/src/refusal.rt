@@ -47,5 +47,6 @@ pub fn numbers(r: Refusal) -> RefusalNumbers
         Refusal::TableLength => with_place(15, 0),
         Refusal::NoSuchPoint => with_place(16, 0),
         Refusal::ClaimsNotMet => with_place(17, 0),
+        Refusal::NoRoom => with_place(18, 0),
     }
 }
