@@ -1,1 +1,5 @@
 pub mod LineJudged
+pub mod FieldsFit
+pub mod LineFields
+pub mod Spelling
+pub mod Laws
