@@ -86,10 +86,23 @@ enum Due {
     SignedNumber,
 }
 
-type Numbers = [Option<Whole>; 6];
+/// The numbers of F1 to F6, none where a field is blank.
+pub type Numbers = [Option<Whole>; 6];
 
 /// The line's meaning, or the number of its first refusal.
 pub fn read_line(line: &[u8]) -> Result<Line, u64> {
+    let (word, numbers) = shaped(line)?;
+    meaning(word, &numbers).ok_or(OUT_OF_LIMITS)
+}
+
+/// The word and the numbers of a line that has a meaning, or the number of its first refusal.
+pub fn read_fields(line: &[u8]) -> Result<(&[u8], Numbers), u64> {
+    read_line(line)?;
+    shaped(line)
+}
+
+/// The word and the numbers of a line, whatever their limits. Refusals 2 to 4.
+fn shaped(line: &[u8]) -> Result<(&[u8], Numbers), u64> {
     if line[39] != 10 || line[..39].iter().any(|byte| !(32..=126).contains(byte)) {
         return Err(BAD_BYTE);
     }
@@ -100,7 +113,7 @@ pub fn read_line(line: &[u8]) -> Result<Line, u64> {
     for field in 0..6 {
         numbers[field] = read_field(columns[field], due[field]).ok_or(BAD_SHAPE)?;
     }
-    meaning(word, &numbers).ok_or(OUT_OF_LIMITS)
+    Ok((word, numbers))
 }
 
 /// The fields of each word; none for a word that does not exist.

@@ -34,3 +34,5 @@ pub const TABLE_TOO_LONG: u64 = 15;
 pub const NO_SUCH_POINT: u64 = 16;
 /// A state that does not meet its point's claims.
 pub const CLAIMS_NOT_MET: u64 = 17;
+/// A line that the lent listing does not hold whole, or that no listing has.
+pub const NO_SUCH_LINE: u64 = 18;
