@@ -1,4 +1,5 @@
-//! The proved checker, claim lines and runner, as their static library offers them to C. Any bytes, sizes and states may be passed.
+//! The proved checker, claim lines, setter and runner, as their static library offers them to C. Any bytes, sizes and
+//! states may be passed.
 
 /// Number 0 and the points for a listing that passes, else the number of the refusal and its places.
 #[derive(Clone, Copy, Debug, PartialEq, Eq)]
@@ -18,11 +19,19 @@ pub struct ClaimPart {
     pub length: u64,
 }
 
-/// Why a call for claim lines is turned back.
+/// Why a call for claim lines, or one that sets a line, is turned back.
 #[derive(Clone, Copy, Debug, PartialEq, Eq)]
 pub struct Refusal {
     pub number: u64,
     pub place: u64,
+}
+
+/// What a line has in a field. The number of `Negative` is without its minus.
+#[derive(Clone, Copy, Debug, PartialEq, Eq)]
+pub enum Field {
+    Blank,
+    Number(u64),
+    Negative(u64),
 }
 
 /// A point and the registers, as the library lays them out.
@@ -53,6 +62,16 @@ extern "C" {
     fn rithwellu_check(listing: *const u8, len: usize, answer: *mut u64);
     fn rithwellu_print(listing: *const u8, len: usize, line: *mut u8);
     fn rithwellu_claim_lines(listing: *const u8, len: usize, point: usize, answer: *mut u64);
+    fn rithwellu_set_line(
+        word: *const u8,
+        word_len: usize,
+        kinds: *const u8,
+        numbers: *const u64,
+        line: usize,
+        listing: *mut u8,
+        len: usize,
+        answer: *mut u64,
+    );
     fn rithwellu_run(
         listing: *const u8,
         listing_len: usize,
@@ -113,6 +132,48 @@ pub fn claim_lines(listing: &[u8], point: usize) -> Result<&[u8], Refusal> {
         return Err(Refusal { number, place });
     }
     Ok(&listing[offset as usize..][..length as usize])
+}
+
+/// Writes one line of the listing, counted from 1, and leaves every other byte. A refusal, 3 to 5 with the line as its
+/// place or 18, leaves all of them. The listing may have any length.
+pub fn set_line(listing: &mut [u8], line: usize, word: &[u8], fields: [Field; 6]) -> Result<(), Refusal> {
+    let parts = fields.map(|field| match field {
+        Field::Blank => (0, 0),
+        Field::Number(number) => (1, number),
+        Field::Negative(number) => (2, number),
+    });
+    match set_line_of_kinds(listing, line, word, &parts.map(|(kind, _)| kind), &parts.map(|(_, number)| number)) {
+        [0, _] => Ok(()),
+        [number, place] => Err(Refusal { number, place }),
+    }
+}
+
+/// The same, with fields as the library takes them: kind 0 is a blank, whose number is not looked at, 1 a number, 2 a
+/// negative number without its minus, and any other a field of wrong shape. The answer is the number of the refusal
+/// and its place, 0 and 0 where the line was set.
+pub fn set_line_of_kinds(
+    listing: &mut [u8],
+    line: usize,
+    word: &[u8],
+    kinds: &[u8; 6],
+    numbers: &[u64; 6],
+) -> [u64; 2] {
+    let mut answer = [0; 2];
+    // SAFETY: the library reads `word_len` bytes of the word, six kinds and six numbers, reads and writes the listing
+    // within its length, and writes two numbers
+    unsafe {
+        rithwellu_set_line(
+            word.as_ptr(),
+            word.len(),
+            kinds.as_ptr(),
+            numbers.as_ptr(),
+            line,
+            listing.as_mut_ptr(),
+            listing.len(),
+            answer.as_mut_ptr(),
+        )
+    };
+    answer
 }
 
 /// Checks the listing and runs it from the state for at most `budget` steps. After a refusal state and results are as
