@@ -1,5 +1,5 @@
-//! Listings and runs from fixed seeds, and the comparison of checkers, of claim lines and of runners on them: where they
-//! differ, the smallest listing or call that still shows it.
+//! Listings, lines and runs from fixed seeds, and the comparison of checkers, of claim lines, of setters and of runners on
+//! them: where they differ, the smallest listing or call that still shows it, or the first call.
 
 pub mod claim_lines;
 pub mod comparison;
@@ -8,6 +8,7 @@ pub mod draft;
 pub mod families;
 pub mod random;
 pub mod runs;
+pub mod set_lines;
 pub mod shrink;
 pub mod tally;
 

@@ -1,0 +1,238 @@
+//! A setter that is wrong on purpose is found out, by the comparison or by a law.
+
+use lines::{FIELDS, LINE};
+use reference::refusals::{BAD_SHAPE, NO_SUCH_LINE, OUT_OF_LIMITS, UNKNOWN_WORD};
+use trials::set_lines::{
+    compare_setters, lines_come_back, set_by_reference, set_families, set_lines_are_read, SetAfter, SetCall,
+    SetDifference, BLANK, NEGATIVE, NUMBER,
+};
+
+/// The first difference between the reference and a wrong setter, in the first family that shows one.
+fn found(wrong: &dyn Fn(&SetCall) -> SetAfter) -> Box<SetDifference> {
+    let differences = set_families().into_iter().map(|family| compare_setters(&family, &set_by_reference, wrong));
+    let difference = differences.filter_map(Result::err).next().expect("the planted difference is found");
+    println!("{difference}");
+    difference
+}
+
+fn numbers_of(difference: &SetDifference) -> (u64, u64) {
+    (difference.left.number, difference.right.number)
+}
+
+/// The offset of the line that was set.
+fn start(call: &SetCall) -> usize {
+    (call.line as usize - 1) * LINE
+}
+
+/// The reference with something changed in what it left, where it set the line.
+fn set_then(call: &SetCall, change: &dyn Fn(&mut [u8], usize)) -> SetAfter {
+    let mut after = set_by_reference(call);
+    if after.number == 0 {
+        change(&mut after.listing, start(call));
+    }
+    after
+}
+
+fn with(call: &SetCall, change: &dyn Fn(&mut SetCall)) -> SetAfter {
+    let mut other = call.clone();
+    change(&mut other);
+    set_by_reference(&other)
+}
+
+fn line_first(call: &SetCall) -> SetAfter {
+    let right = set_by_reference(call);
+    let bare = with(call, &|call| (call.word, call.kinds) = (b"STOP".to_vec(), [BLANK; 6]));
+    if bare.number == NO_SUCH_LINE {
+        bare
+    } else {
+        right
+    }
+}
+
+/// A number that leaves room stands one column to the left.
+fn one_column_left(call: &SetCall) -> SetAfter {
+    set_then(call, &|listing, start| {
+        for (from, to) in FIELDS {
+            let columns = &mut listing[start + from..start + to];
+            if columns[0] == b' ' {
+                columns.rotate_left(1);
+            }
+        }
+    })
+}
+
+fn blank_as_0(call: &SetCall) -> SetAfter {
+    set_then(call, &|listing, start| {
+        for ((_, to), _) in FIELDS.iter().zip(call.kinds).filter(|(_, kind)| *kind == BLANK) {
+            listing[start + to - 1] = b'0';
+        }
+    })
+}
+
+/// Ends the line before with a line feed.
+fn neighbour_changed(call: &SetCall) -> SetAfter {
+    set_then(call, &|listing, start| {
+        if start > 0 {
+            listing[start - 1] = b'\n';
+        }
+    })
+}
+
+/// Leaves the spaces of the line as they stood.
+fn spaces_not_written(call: &SetCall) -> SetAfter {
+    set_then(call, &|listing, start| {
+        let line = &mut listing[start..start + LINE];
+        for (byte, before) in line.iter_mut().zip(&call.listing[start..]).filter(|(byte, _)| **byte == b' ') {
+            *byte = *before;
+        }
+    })
+}
+
+fn minus_on_0(call: &SetCall) -> SetAfter {
+    with(call, &|call| {
+        if call.word == b"STRP" && call.kinds[5] == NEGATIVE && call.numbers[5] == 0 {
+            call.kinds[5] = NUMBER;
+        }
+    })
+}
+
+fn first_four_bytes(call: &SetCall) -> SetAfter {
+    with(call, &|call| call.word.truncate(4))
+}
+
+/// 5 with place 0 where 18 holds too.
+fn place_0_in_5(call: &SetCall) -> SetAfter {
+    let mut after = set_by_reference(call);
+    if after.number == OUT_OF_LIMITS && line_first(call).number == NO_SUCH_LINE {
+        after.place = 0;
+    }
+    after
+}
+
+/// The reference, but where it has no such line, one that ends at this byte of the listing.
+fn set_up_to(call: &SetCall, end: usize) -> SetAfter {
+    let mut after = set_by_reference(call);
+    if after.number == NO_SUCH_LINE && (LINE..=call.listing.len()).contains(&end) {
+        let alone = with(call, &|call| (call.line, call.listing) = (1, vec![0; LINE]));
+        after.listing[end - LINE..end].copy_from_slice(&alone.listing);
+        after.number = 0;
+    }
+    after
+}
+
+/// Forty times the line modulo 2^64.
+fn product_wraps(call: &SetCall) -> SetAfter {
+    let (product, wraps) = (call.line as usize).overflowing_mul(LINE);
+    set_up_to(call, if wraps { product } else { 0 })
+}
+
+fn one_line_more(call: &SetCall) -> SetAfter {
+    set_up_to(call, if call.line == 1639 { 1639 * LINE } else { 0 })
+}
+
+/// Only the digits that have room are written.
+fn digits_cut(call: &SetCall) -> SetAfter {
+    with(call, &|call| call.numbers[..5].iter_mut().for_each(|number| *number %= 10_000))
+}
+
+/// 5 for a number that is too wide, also where a blank is due.
+fn width_first(call: &SetCall) -> SetAfter {
+    let mut after = set_by_reference(call);
+    let wide = (0..5).any(|at| call.kinds[at] == NUMBER && call.numbers[at] > 9_999);
+    if after.number == BAD_SHAPE && wide {
+        after.number = OUT_OF_LIMITS;
+    }
+    after
+}
+
+/// A kind that is none taken for a number.
+fn any_kind_a_number(call: &SetCall) -> SetAfter {
+    with(call, &|call| call.kinds.iter_mut().for_each(|kind| *kind = if *kind > NEGATIVE { NUMBER } else { *kind }))
+}
+
+#[test]
+fn a_line_looked_for_too_soon_is_found() {
+    let (left, right) = numbers_of(&found(&line_first));
+    assert!((UNKNOWN_WORD..=OUT_OF_LIMITS).contains(&left));
+    assert_eq!(right, NO_SUCH_LINE);
+}
+
+#[test]
+fn a_field_in_other_columns_is_found() {
+    let difference = found(&one_column_left);
+    assert_eq!(numbers_of(&difference), (0, 0));
+    assert!(difference.first_byte().is_some());
+    assert!(set_families().iter().any(|family| set_lines_are_read(family, &one_column_left).is_err()));
+}
+
+#[test]
+fn a_blank_written_as_0_is_found() {
+    let difference = found(&blank_as_0);
+    assert_eq!(numbers_of(&difference), (0, 0));
+    let at = difference.first_byte().expect("bytes differ");
+    assert_eq!((difference.left.listing[at], difference.right.listing[at]), (b' ', b'0'));
+}
+
+#[test]
+fn a_byte_of_a_neighbour_is_found() {
+    let difference = found(&neighbour_changed);
+    assert_eq!(difference.first_byte(), Some(start(&difference.call) - 1));
+    assert!(set_families().iter().any(|family| set_lines_are_read(family, &neighbour_changed).is_err()));
+}
+
+#[test]
+fn spaces_that_are_not_written_are_found() {
+    assert_eq!(numbers_of(&found(&spaces_not_written)), (0, 0));
+    let routines = trials::all().swap_remove(0).thinned(100);
+    assert!(lines_come_back(&routines, &spaces_not_written).is_err());
+}
+
+#[test]
+fn a_minus_on_0_is_found() {
+    let difference = found(&minus_on_0);
+    assert_eq!(numbers_of(&difference), (BAD_SHAPE, 0));
+    assert_eq!((difference.call.kinds[5], difference.call.numbers[5]), (NEGATIVE, 0));
+}
+
+#[test]
+fn a_longer_word_is_found() {
+    let difference = found(&first_four_bytes);
+    assert_eq!(difference.left.number, UNKNOWN_WORD);
+    assert!(difference.call.word.len() > 4);
+}
+
+#[test]
+fn a_place_that_is_not_the_line_given_is_found() {
+    let difference = found(&place_0_in_5);
+    assert_eq!(numbers_of(&difference), (OUT_OF_LIMITS, OUT_OF_LIMITS));
+    assert_eq!((difference.left.place, difference.right.place), (difference.call.line, 0));
+}
+
+#[test]
+fn a_product_that_wraps_is_found() {
+    let difference = found(&product_wraps);
+    assert_eq!(numbers_of(&difference), (NO_SUCH_LINE, 0));
+    assert!(difference.call.line > u64::MAX / LINE as u64);
+}
+
+#[test]
+fn digits_without_room_are_found() {
+    assert_eq!(numbers_of(&found(&digits_cut)).0, OUT_OF_LIMITS);
+}
+
+#[test]
+fn a_width_tested_too_soon_is_found() {
+    assert_eq!(numbers_of(&found(&width_first)), (BAD_SHAPE, OUT_OF_LIMITS));
+}
+
+#[test]
+fn a_kind_that_is_none_is_found() {
+    assert_eq!(numbers_of(&found(&any_kind_a_number)).0, BAD_SHAPE);
+}
+
+#[test]
+fn a_line_past_the_longest_listing_is_found() {
+    let difference = found(&one_line_more);
+    assert_eq!(numbers_of(&difference), (NO_SUCH_LINE, 0));
+    assert!(difference.call.listing.len() >= 1639 * LINE);
+}
