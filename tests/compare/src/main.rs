@@ -1,7 +1,11 @@
-//! Compares the proved checker and the claim lines of points with the reference on families of listings, and the
-//! program with the examples. Counted are: each family, each example, and that no answer is rare.
+//! Compares the proved checker and the claim lines of points with the reference on families of listings, the proved
+//! setter on families of calls, and the program with the examples. What is set is read, and what is read is set again.
+//! Counted are: each family, each of the two laws, each example, and that no answer is rare.
+
+mod set_lines;
 
 use reference::Answer;
+use set_lines::{compare_set_lines, try_laws};
 use std::fs;
 use std::path::{Path, PathBuf};
 use std::process::{Command, ExitCode};
@@ -12,11 +16,13 @@ fn main() -> ExitCode {
     let mut count = Count::default();
     compare_families(&mut count);
     compare_claim_lines(&mut count);
+    compare_set_lines(&mut count);
+    try_laws(&mut count);
     try_examples(&mut count);
     println!(
-        "counted: each family of listings for the checker and for claim lines, each example, and for each of the two"
+        "counted: each family of listings for the checker and for claim lines, each family of calls that set a line,"
     );
-    println!("once that no answer is rare");
+    println!("for each of the three once that no answer is rare, each of the two laws, and each example");
     count.finish()
 }
 
