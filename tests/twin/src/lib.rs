@@ -1,11 +1,12 @@
-//! The checker and the runner as one would write them in plain safe Rust for speed: one pass over the text, fixed
-//! arrays, no heap. They are the yardstick of the benchmark and give the same answers as the other two.
+//! The checker, the setter and the runner as one would write them in plain safe Rust for speed: one pass over the text,
+//! fixed arrays, no heap. They are the yardstick of the benchmark and give the same answers as the other two.
 
 mod facts;
 mod follow;
 mod line;
 mod read;
 mod run;
+mod set;
 mod walk;
 
 use line::{Claim, LINE};
@@ -13,6 +14,7 @@ use read::{in_room, read, Listing, Point};
 use reference::refusals::NO_SUCH_POINT;
 
 pub use run::{run, Outcome, Report, State};
+pub use set::{set_line, Set};
 
 /// Number 0 and the points for a listing that passes, else the number of the refusal and its places.
 #[derive(Clone, Copy, Debug, PartialEq, Eq)]

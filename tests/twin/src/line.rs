@@ -51,11 +51,11 @@ pub enum Line {
     Claim(Claim),
 }
 
-/// The numbers of F1 to F6, 0 where a field is blank, and which are filled, a bit each from F1 up.
-struct Fields {
-    numbers: [u64; 6],
-    filled: u8,
-    minus: bool,
+/// The numbers of F1 to F6, any where a field is blank, and which are filled, a bit each from F1 up.
+pub struct Fields {
+    pub numbers: [u64; 6],
+    pub filled: u8,
+    pub minus: bool,
 }
 
 const fn word(bytes: &[u8; 4]) -> u32 {
@@ -76,11 +76,11 @@ const BLTU: u32 = word(b"BLTU");
 const BEQU: u32 = word(b"BEQU");
 const LEAS: u32 = word(b"LEAS");
 const MOST: u32 = word(b"MOST");
-const STRP: u32 = word(b"STRP");
+pub const STRP: u32 = word(b"STRP");
 
 /// Which fields must be filled, a bit each from F1 up; STRP's F4 may be either.
 #[inline]
-fn due(word: u32) -> Option<u8> {
+pub fn due(word: u32) -> Option<u8> {
     Some(match word {
         STOP => 0b000000,
         SETC | LEAS | MOST => 0b100001,
@@ -95,7 +95,7 @@ fn due(word: u32) -> Option<u8> {
     })
 }
 
-const STRIPE_Z: u8 = 0b001000;
+pub const STRIPE_Z: u8 = 0b001000;
 
 /// The line, or the number of its refusal.
 #[inline]
@@ -171,7 +171,7 @@ fn read_digits(digits: &[u8]) -> Option<u64> {
 
 /// The line of a word whose fields are filled as is due, if every number is within its limits.
 #[inline]
-fn meaning(word: u32, fields: &Fields) -> Option<Line> {
+pub fn meaning(word: u32, fields: &Fields) -> Option<Line> {
     let f = &fields.numbers;
     let instruction = match word {
         STRP => return stripe(fields).map(Line::Claim),

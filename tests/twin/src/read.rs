@@ -10,7 +10,7 @@ use reference::refusals::{
 const LONGEST: usize = 65_520;
 const MOST_STRIPES: u8 = 8;
 
-const MOST_LINES: usize = LONGEST / LINE;
+pub const MOST_LINES: usize = LONGEST / LINE;
 const MOST_POINTS: usize = 512;
 const FEW_LINES: usize = 64;
 
