@@ -1,9 +1,10 @@
-//! Times the proved checker and runner against the twin in plain Rust, in the same process and in turns, and prints
-//! ratios.
+//! Times the proved checker, setter and runner against the twin in plain Rust, in the same process and in turns, and
+//! prints ratios.
 
 mod listings;
 mod rows;
 mod runs;
+mod set_lines;
 mod timing;
 
 use listings::{longest, small, typical, worst, KeyLink};
@@ -24,6 +25,7 @@ fn main() {
     print_checks(&mut rows);
     print_checks_by_points(&mut rows);
     print_claim_lines(&mut rows);
+    set_lines::print_set_lines(&mut rows);
     runs::print_runs(&mut rows);
 }
 
