@@ -3,7 +3,7 @@
 
 mod painted;
 
-use archive::{check, claim_part, printed, run, run_in_place, State};
+use archive::{check, claim_part, printed, run, run_in_place, set_line, Field, State};
 use lines::listing;
 use painted::stack_of;
 use std::hint::black_box;
@@ -46,6 +46,22 @@ fn greatest<T>(call: impl Fn(&[u8]) -> T + Sync) -> usize {
     listings().iter().map(on).max().unwrap_or(0)
 }
 
+/// The longest numbers that a line may have.
+const WIDEST: [Field; 6] = [
+    Field::Number(17),
+    Field::Number(255),
+    Field::Number(17),
+    Field::Number(17),
+    Field::Blank,
+    Field::Negative(4_398_046_511_104),
+];
+
+fn set_widest() {
+    let mut line = [0; 40];
+    assert_eq!(set_line(&mut line, 1, b"STRP", black_box(WIDEST)), Ok(()));
+    black_box(line);
+}
+
 fn main() {
     for deep in [links(), full()] {
         assert_eq!(check(&deep).number, 0, "the deep listings pass");
@@ -59,6 +75,7 @@ fn main() {
     println!("{:>8} check", greatest(check));
     println!("{:>8} print", greatest(printed));
     println!("{:>8} claim_lines", greatest(|listing| claim_part(listing, 0)));
+    println!("{:>8} set_line", stack_of(&set_widest));
     println!("{:>8} run", greatest(|listing| run(listing, state, &[7; 64], &mut [0; 64], BUDGET)));
     println!("{:>8} run_in_place", greatest(in_place));
 }
