@@ -75,7 +75,7 @@ fn main() {
     println!("{:>8} check", greatest(check));
     println!("{:>8} print", greatest(printed));
     println!("{:>8} claim_lines", greatest(|listing| claim_part(listing, 0)));
-    println!("{:>8} set_line", stack_of(&set_widest));
+    println!("{:>8} set_line, the widest numbers", stack_of(&set_widest));
     println!("{:>8} run", greatest(|listing| run(listing, state, &[7; 64], &mut [0; 64], BUDGET)));
     println!("{:>8} run_in_place", greatest(in_place));
 }
