@@ -151,6 +151,7 @@ pub fn set_line(listing: &mut [u8], line: usize, word: &[u8], fields: [Field; 6]
 /// The same, with fields as the library takes them: kind 0 is a blank, whose number is not looked at, 1 a number, 2 a
 /// negative number without its minus, and any other a field of wrong shape. The answer is the number of the refusal
 /// and its place, 0 and 0 where the line was set.
+#[inline]
 pub fn set_line_of_kinds(
     listing: &mut [u8],
     line: usize,
