@@ -1,7 +1,4 @@
 pub mod Digits
 pub mod FourBytes
+pub mod FieldColumns
 pub mod Shapes
-pub mod WrittenColumns
-pub mod OtherColumns
-pub mod ReadBack
-pub mod SetAgain

@@ -1,5 +1,4 @@
-// The columns of a line: a field read from its columns, and a whole line written.
+// The columns of a line: a field read from its columns.
 pub mod field;
 pub mod fours;
 pub mod reading;
-pub mod write;

@@ -51,12 +51,12 @@ pub fn printed(v: Verdict) -> [u8; 40]
     match v {
         Verdict::Passed { points } => {
             let t = *b"PASS";
-            columns::write::set_line(&mut line, &t, pass_fields(points));
+            written_line::set_line(&mut line, &t, pass_fields(points));
             line
         }
         Verdict::Refused(r) => {
             let t = *b"FAIL";
-            columns::write::set_line(&mut line, &t, fail_fields(r));
+            written_line::set_line(&mut line, &t, fail_fields(r));
             line
         }
     }

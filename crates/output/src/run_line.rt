@@ -1,11 +1,11 @@
 // The line that the program prints for a run: STOP or PAUS with the point in F1 and the steps in F6, or the checker's FAIL line.
 use crate::printed::printed;
-use columns::write::set_line;
 use lines::words::text;
 use model::answers::Report;
 use model::answers::Verdict;
 use model::text::Field;
 use model::text::Word;
+use written_line::set_line;
 ghost use mathlib.Core.Path.{_≡_};
 ghost use Rattle.output.specs.RunLine.{runFields, runLine, answerLine};
 

@@ -6,7 +6,7 @@ use mathlib.Core.Bool.{Bool, true, false, _&&_, cond, false≢true}
 use mathlib.Core.List.{List, [], _∷_}
 use lib.ListN.{length, getD}
 use lib.Dec.{leb, eqb}
-use borrow.Author.Tests.{eqb-true, leb-true, le-leb, lt-leb, eq-eqb, ne-eqb}
+use borrow.Author.Tests.{leb-true, le-leb, lt-leb, eq-eqb, ne-eqb}
 use Rattle.model.specs.Limits.{lineBytes, greatestLines}
 use Rattle.model.specs.declared.text.Field.{Field}
 use Rattle.model.specs.declared.text.Word.{Word}
@@ -18,8 +18,9 @@ use Rattle.model.specs.Answers.{isRefused, _andThen_}
 use Rattle.model.specs.Words.{textOf, words, begins, wordAmong}
 use Rattle.model.specs.Lines.{judged, wordSet, lineSet}
 use Rattle.model.specs.Writing.{wordOf, roomFor, lineJudged, withLine, listingIf, listingSet}
-use Rattle.model.proofs.Tests.{and-left, and-right}
+use Rattle.model.proofs.Tests.{and-right}
 use Rattle.model.proofs.Judgements.{accepted}
+use Rattle.written_line.proofs.LineFields.{bytes-of-word}
 
 -- ---- the word
 pub word-none : (t : List ℕ) → (length t ≡ 4 → ⊥) → Unknown ≡ wordOf t
@@ -47,16 +48,6 @@ found t w e = go (eqb (length t) 4) e
     go : (b : Bool) → cond b (wordAmong words t) Unknown ≡ Known w → begins t (textOf w) ≡ true
     go true e = found-among words t w e
     go false e = let z : _≡_ {A = ℕ} 0 1 = cc in absurd (omega arith)
-
--- so that its bytes are those of the word
-pub bytes-of-word : (t u : List ℕ) → begins t u ≡ true → (getD t 0 0 ≡ getD u 0 0) × (getD t 1 0 ≡ getD u 1 0) × (getD t 2 0 ≡ getD u 2 0) × (getD t 3 0 ≡ getD u 3 0)
-unfolding begins
-bytes-of-word t u e =
-    let abc = and-left (eqb (getD t 0 0) (getD u 0 0) && eqb (getD t 1 0) (getD u 1 0) && eqb (getD t 2 0) (getD u 2 0)) _ e in
-    let d = and-right (eqb (getD t 0 0) (getD u 0 0) && eqb (getD t 1 0) (getD u 1 0) && eqb (getD t 2 0) (getD u 2 0)) _ e in
-    let ab = and-left (eqb (getD t 0 0) (getD u 0 0) && eqb (getD t 1 0) (getD u 1 0)) _ abc in
-    let c = and-right (eqb (getD t 0 0) (getD u 0 0) && eqb (getD t 1 0) (getD u 1 0)) _ abc in
-    (eqb-true _ _ (and-left (eqb (getD t 0 0) (getD u 0 0)) _ ab), eqb-true _ _ (and-right (eqb (getD t 0 0) (getD u 0 0)) _ ab), eqb-true _ _ c, eqb-true _ _ d)
 
 same-word : (l t u : List ℕ) → begins t u ≡ true → wordSet l u ≡ wordSet l t
 unfolding wordSet

@@ -15,11 +15,10 @@ use Rattle.model.specs.Text.{lineEnd, fieldOf}
 use Rattle.model.specs.Words.{textOf, begins}
 use Rattle.model.specs.Lines.{printable, wellSpelled, columnOf, widthOf, fieldAt, lineSet}
 use Rattle.model.proofs.Tests.{and-both, every-below, all-below}
-use Rattle.columns.proofs.ReadBack.{Fits}
-use Rattle.columns.proofs.SetAgain.{Taken, field-printable}
-use Rattle.writer.proofs.LineJudged.{bytes-of-word}
+use Rattle.written_line.proofs.ReadBack.{Fits}
+use Rattle.written_line.proofs.SetAgain.{Taken, field-printable}
 use Rattle.writer.proofs.FieldsFit.{fits-taken}
-use Rattle.writer.proofs.LineFields.{line-end, line-word, line-field}
+use Rattle.written_line.proofs.LineFields.{bytes-of-word, line-end, line-word, line-field}
 
 -- the bytes of the words, by computation
 word-printable : (w : Word) → everyBelow (λ (j : ℕ). printable (getD (textOf w) j 0)) 4 ≡ true

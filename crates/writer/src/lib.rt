@@ -1,5 +1,4 @@
 // One line of a lent listing, set from a word, six fields and the line's number.
-use columns::write;
 use lines::fields::judge;
 use lines::words;
 use model::answers::Judgement;
@@ -49,7 +48,7 @@ pub fn write_line(s: &mut [u8], k: usize, w: Word, fs: [Field; 6])
     let a = k * LINE_BYTES;
     let e = a + LINE_BYTES;
     let t = words::text(w);
-    write::set_line(&mut s[a..e], &t, fs);
+    written_line::set_line(&mut s[a..e], &t, fs);
 }
 
 // Sets line n where there is room for it.

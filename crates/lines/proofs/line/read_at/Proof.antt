@@ -1,7 +1,7 @@
 -- The columns of a field lie within the line. Assumes nothing.
 use native.Mathlib.Omega.{arith}
 use borrow.Author.Needs.{needs}
-use Rattle.columns.proofs.WrittenColumns.{columns-fit}
+use Rattle.columns.proofs.FieldColumns.{columns-fit}
 use Rattle.lines.proofs.line.read_at.Statement.{statement}
 use Rattle.lines.proofs.line.read_at.Tie as tie
 

@@ -14,7 +14,7 @@ use Rattle.model.specs.declared.text.Field.{Field}
 use Rattle.model.specs.declared.text.Field.the-variants.{Blank, Number, Negative, Misshapen}
 use Rattle.model.specs.Text.{isDigit, digitOf, nextShape, shapeOf, digitsOf, fieldFrom, fieldOf, lastByte, shapeBefore, columnsSet, shapeFor, fieldSet}
 use Rattle.model.proofs.Tests.{cond-cases}
-use Rattle.columns.proofs.OtherColumns.{last-set}
+use Rattle.written_line.proofs.OtherColumns.{last-set}
 
 -- the numbers that a shape stands with
 abbrev pub Holds : Shape → ℕ → Type 0

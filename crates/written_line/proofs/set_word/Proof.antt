@@ -1,10 +1,11 @@
+-- Four bytes are set one by one. Assumes nothing.
 use native.Mathlib.Omega.{arith}
 use mathlib.Core.Path.{refl}
 use lib.ListN.{length-set}
 use Rattle.model.specs.Lines.{wordSet}
 use borrow.Author.Needs.{needs}
-use Rattle.columns.proofs.write.set_word.Statement.{statement}
-use Rattle.columns.proofs.write.set_word.Tie as tie
+use Rattle.written_line.proofs.set_word.Statement.{statement}
+use Rattle.written_line.proofs.set_word.Tie as tie
 
 slice-write-l-2 : tie.Need-slice-write-l-2
 slice-write-l-2 c = simp length-set (omega arith)

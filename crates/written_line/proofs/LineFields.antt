@@ -4,23 +4,23 @@ use native.Mathlib.Nat.{not-suc-le-zero}
 use native.Mathlib.Omega.{arith}
 use native.Mathlib.Decide.{ℕ-discrete}
 use mathlib.Core.Path.{_≡_, refl, sym, _∙_, ap}
-use mathlib.Core.Bool.{Bool, true, false, cond}
+use mathlib.Core.Bool.{Bool, true, false, _&&_, cond}
 use mathlib.Core.List.{List, [], _∷_}
 use lib.ListN.{getD, set, length, length-set}
 use lib.Seq.{getD-set-same, getD-set-other, set-getD, ext-getD}
 use lib.Dec.{leb, eqb}
-use borrow.Author.Tests.{leb-true, leb-false, ne-eqb}
+use borrow.Author.Tests.{eqb-true, leb-true, leb-false, ne-eqb}
 use Rattle.model.specs.declared.text.Field.{Field}
 use Rattle.model.specs.declared.text.Field.the-variants.{Blank}
 use Rattle.model.specs.declared.text.Word.{Word}
 use Rattle.model.specs.Text.{lineEnd, fieldOf, fieldSet}
 use Rattle.model.specs.Words.{textOf, words, begins, wordAmong}
 use Rattle.model.specs.Lines.{columnOf, widthOf, fieldsIn, fieldAt, wordSet, fieldsSet, lineSet}
-use Rattle.columns.proofs.WrittenColumns.{columns-fit}
-use Rattle.columns.proofs.OtherColumns.{length-field, field-kept, field-alike}
-use Rattle.columns.proofs.ReadBack.{Fits, field-read, field-same}
-use Rattle.columns.proofs.SetAgain.{Taken, field-set}
-use Rattle.writer.proofs.LineJudged.{bytes-of-word}
+use Rattle.model.proofs.Tests.{and-left, and-right}
+use Rattle.columns.proofs.FieldColumns.{columns-fit}
+use Rattle.written_line.proofs.OtherColumns.{length-field, field-kept, field-alike}
+use Rattle.written_line.proofs.ReadBack.{Fits, field-read, field-same}
+use Rattle.written_line.proofs.SetAgain.{Taken, field-set}
 
 -- all but the last field have four columns
 width-before : (j n : ℕ) → j < n → n < 6 → widthOf j ≡ 4
@@ -83,6 +83,16 @@ fields-alike l m fs e e′ same (suc n) b j h = go (leb (columnOf n) j) refl (fi
         ∙ sym (field-kept (fieldsSet m fs n) (columnOf n) (widthOf n) (fieldAt fs n) j (λ i c d. omega arith))
 
 -- ---- the word
+-- the four bytes that a line begins with
+pub bytes-of-word : (t u : List ℕ) → begins t u ≡ true → (getD t 0 0 ≡ getD u 0 0) × (getD t 1 0 ≡ getD u 1 0) × (getD t 2 0 ≡ getD u 2 0) × (getD t 3 0 ≡ getD u 3 0)
+unfolding begins
+bytes-of-word t u e =
+    let abc = and-left (eqb (getD t 0 0) (getD u 0 0) && eqb (getD t 1 0) (getD u 1 0) && eqb (getD t 2 0) (getD u 2 0)) _ e in
+    let d = and-right (eqb (getD t 0 0) (getD u 0 0) && eqb (getD t 1 0) (getD u 1 0) && eqb (getD t 2 0) (getD u 2 0)) _ e in
+    let ab = and-left (eqb (getD t 0 0) (getD u 0 0) && eqb (getD t 1 0) (getD u 1 0)) _ abc in
+    let c = and-right (eqb (getD t 0 0) (getD u 0 0) && eqb (getD t 1 0) (getD u 1 0)) _ abc in
+    (eqb-true _ _ (and-left (eqb (getD t 0 0) (getD u 0 0)) _ ab), eqb-true _ _ (and-right (eqb (getD t 0 0) (getD u 0 0)) _ ab), eqb-true _ _ c, eqb-true _ _ d)
+
 length-word : (l t : List ℕ) → length (wordSet l t) ≡ length l
 unfolding wordSet
 length-word l t = simp length-set
@@ -190,3 +200,8 @@ line-alike l m t fs e e′ = ext-getD 0 (lineSet l t fs) (lineSet m t fs) (lengt
         go : Dec (i ≡ 39) → getD (lineSet l t fs) i 0 ≡ getD (lineSet m t fs) i 0
         go (yes q) = rw q (line-end l t fs e ∙ sym (line-end m t fs e′))
         go (no q) = line-before l m t fs e e′ i (omega (arith, length-line l t fs))
+
+-- a line made of one that was cleared
+pub line-made : (l m t : List ℕ) (fs : List Field) (w k : List ℕ) → length l ≡ 40 → length m ≡ 40 → w ≡ wordSet l t → k ≡ fieldsSet w fs 6 → set k 39 lineEnd ≡ lineSet m t fs
+unfolding lineSet
+line-made l m t fs w k e e′ q r = rw (r, q) (line-alike l m t fs e e′)

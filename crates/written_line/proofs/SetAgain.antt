@@ -16,8 +16,8 @@ use Rattle.model.specs.declared.text.Field.{Field}
 use Rattle.model.specs.declared.text.Field.the-variants.{Blank, Number, Negative, Misshapen}
 use Rattle.model.specs.Text.{isDigit, digitOf, nextShape, shapeOf, digitsOf, fieldFrom, fieldOf, valueIn, lastByte, shapeBefore, columnsSet, shapeFor, fieldSet}
 use Rattle.model.proofs.Tests.{cond-cases}
 use Rattle.columns.proofs.Digits.{digit-byte, digit-below}
-use Rattle.columns.proofs.ReadBack.{Holds}
+use Rattle.written_line.proofs.ReadBack.{Holds}
 
 digit-back : (b : ℕ) → isDigit b ≡ true → 48 + digitOf b ≡ b
 unfolding digitOf
