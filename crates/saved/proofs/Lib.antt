@@ -1,4 +1,3 @@
-pub mod TextLines
 pub mod StateLines
 pub mod StateText
 pub mod WorkedState

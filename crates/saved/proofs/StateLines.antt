@@ -1,21 +1,20 @@
 -- Lines of a state: when a line is one of a word, and what it names or sets. Assumes nothing.
 use Prim.Native.Nat.{ℕ, _≤_}
 use native.Mathlib.Omega.{arith}
-use mathlib.Core.Path.{_≡_, refl, sym}
-use mathlib.Core.Bool.{Bool, true, false, _&&_, not, false≢true}
+use mathlib.Core.Path.{_≡_, refl}
+use mathlib.Core.Bool.{true, false, _&&_, not}
 use mathlib.Core.List.{List}
-use borrow.Author.Tests.{leb-true, eq-eqb, ne-eqb}
+use borrow.Author.Tests.{leb-true, not-true, eq-eqb, ne-eqb}
 use Rattle.model.specs.declared.text.Field.{Field}
 use Rattle.model.specs.declared.text.Word.{Word}
 use Rattle.model.specs.declared.text.Word.the-variants.{Setc as SETC, Jump as JUMP}
 use Rattle.model.specs.declared.text.FoundWord.the-variants.{Known}
-use Rattle.model.specs.declared.answers.Judgement.{Judgement}
-use Rattle.model.specs.declared.answers.Judgement.the-variants.{Accepted, Refused as refused}
 use Rattle.model.specs.Limits.{MAX}
 use Rattle.model.specs.Answers.{isRefused}
 use Rattle.model.specs.Words.{textOf as wordText, begins, fieldsOf, allowed, within}
 use Rattle.model.specs.Lines.{wellSpelled, fieldsIn, fieldAt, F1, F4, F5, F6, kindAt, judged, inLimits}
 use Rattle.model.proofs.Tests.{and-right, every-below}
+use Rattle.model.proofs.Judgements.{accepted as not-refused}
 use Rattle.lines.proofs.AcceptedFields.{accepted}
 use Rattle.saved.specs.declared.states.Target.the-variants.{Point, NoPoint}
 use Rattle.saved.specs.declared.states.Setting.the-variants.{Value, NoValue}
@@ -26,11 +25,6 @@ set-limit : (fs : List Field) → inLimits SETC fs ≡ true → F6 fs ≤ MAX
 unfolding inLimits fieldsOf allowed within
 set-limit fs e =
     leb-true (F6 fs) MAX (every-below (λ (j : ℕ). allowed (kindAt SETC j) (F1 fs) (F5 fs) (fieldAt fs j)) 6 e 5 (omega arith))
-
--- a judgement that accepts
-accepting : (j : Judgement) → not (isRefused j) ≡ true → j ≡ Accepted
-accepting Accepted e = refl
-accepting (refused r) e = absurd (false≢true e)
 
 module _ (l : List ℕ) where
   module _ (w : Word) where
@@ -68,4 +62,4 @@ module _ (l : List ℕ) where
 
   pub setting-fits : isLineOf SETC l ≡ true → F6 (fieldsIn l) ≤ MAX
   unfolding isLineOf
-  setting-fits e = set-limit (fieldsIn l) (accepted 0 SETC (fieldsIn l) (accepting _ (and-right (wellSpelled l && begins l (wordText SETC)) _ e)) .1)
+  setting-fits e = set-limit (fieldsIn l) (accepted 0 SETC (fieldsIn l) (not-refused _ (not-true _ (and-right (wellSpelled l && begins l (wordText SETC)) _ e))) .1)

@@ -1,9 +1,9 @@
 -- A state as text: 17 lines of 40 bytes in a listing's own form, a JUMP to the point and then a SETC for each register, in order.
 -- Every line is judged by 2 to 5, as a line of a listing is; a text that is anything else is no state.
-use Prim.Native.Nat.{ℕ, zero, suc, _+_, _*_}
+use Prim.Native.Nat.{ℕ, zero, suc, _+_}
 use mathlib.Core.Bool.{Bool, true, false, _&&_, not, cond}
-use mathlib.Core.List.{List, [], _∷_, _++_}
-use lib.ListN.{length, getD, set, take, drop, replicate}
+use mathlib.Core.List.{List, [], _∷_}
+use lib.ListN.{length, getD, set, replicate}
 use lib.Dec.{eqb}
 use Rattle.model.specs.declared.text.Field.{Field}
 use Rattle.model.specs.declared.text.Field.the-variants.{Blank, Number}
@@ -11,12 +11,13 @@ use Rattle.model.specs.declared.text.Word.{Word}
 use Rattle.model.specs.declared.text.Word.the-variants.{Setc as SETC, Jump as JUMP}
 use Rattle.model.specs.declared.text.FoundWord.the-variants.{Known}
 use Rattle.model.specs.declared.machine.State.{State}
-use Rattle.model.specs.Limits.{lineBytes, registers}
+use Rattle.model.specs.Limits.{registers}
 use Rattle.model.specs.Text.{space}
 use Rattle.model.specs.Answers.{isRefused}
 use Rattle.model.specs.Words.{textOf as wordText, begins}
-use Rattle.model.specs.Lines.{wellSpelled, fieldsIn, F1, F4, F6, judged, lineSet}
+use Rattle.model.specs.Lines.{wellSpelled, fieldsIn, F1, F4, F6, judged}
 use Rattle.model.specs.Listing.{lineAt}
+use Rattle.model.specs.Writing.{withLine}
 use Rattle.saved.specs.declared.states.Target.{Target}
 use Rattle.saved.specs.declared.states.Target.the-variants.{Point, NoPoint}
 use Rattle.saved.specs.declared.states.Setting.{Setting}
@@ -79,11 +80,6 @@ pointFields p = Blank ∷ Blank ∷ Blank ∷ Number p ∷ Blank ∷ Blank ∷ [
 -- writing: the fields of the line of register v
 abbrev pub registerFields : ℕ → ℕ → List Field
 registerFields v c = Number v ∷ Blank ∷ Blank ∷ Blank ∷ Blank ∷ Number c ∷ []
-
--- writing: line k of a text, counted from 0
-unfoldable pub withLine : List ℕ → ℕ → List ℕ → List Field → List ℕ
-unfolding lineSet
-withLine t k word fs = take (k * lineBytes) t ++ (lineSet (lineAt t k) word fs ++ drop lineBytes (drop (k * lineBytes) t))
 
 -- writing: a text with the line of the point
 unfoldable pub pointSet : List ℕ → ℕ → List ℕ

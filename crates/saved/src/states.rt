@@ -1,6 +1,5 @@
 // A state as text: 17 lines like those of a listing, a JUMP to the point and then a SETC for each register, in order.
 use columns::field::value;
-use columns::write::set_line;
 use lines::fields::judge;
 use lines::line::is_well_spelled;
 use lines::line::read_fields;
@@ -11,6 +10,7 @@ use model::machine::State;
 use model::text::Field;
 use model::text::FoundWord;
 use model::text::Word;
+use writer::write_line;
 ghost use mathlib.Core.Path.{_≡_};
 ghost use Prim.Native.Nat.{_+_, _<_};
 ghost use Rattle.model.specs.Limits as Limits;
@@ -196,11 +196,7 @@ fn set_register(text: &mut [u8], v: usize, c: u32)
     requires { ⌜ (length (now text) ≡ 680) × (v < Limits.registers) ⌝ }
     ensures { λ _. ⌜ now (text .exit) ≡ registerSet (now (text .entry)) v c ⌝ }
 {
-    let k = v + 1;
-    let a = k * 40;
-    let e = a + 40;
-    let t = words::text(Word::Setc);
-    set_line(&mut text[a..e], &t, register_fields(v, c));
+    write_line(text, v + 1, Word::Setc, register_fields(v, c));
 }
 
 // Writes the lines of all registers.
@@ -220,8 +216,7 @@ fn set_point(text: &mut [u8], point: usize)
     requires { ⌜ length (now text) ≡ 680 ⌝ }
     ensures { λ _. ⌜ now (text .exit) ≡ pointSet (now (text .entry)) point ⌝ }
 {
-    let t = words::text(Word::Jump);
-    set_line(&mut text[0..40], &t, point_fields(point));
+    write_line(text, 0, Word::Jump, point_fields(point));
 }
 
 // The text of a state.

@@ -36,6 +36,10 @@ use Rattle.written_line.proofs.LineFields.{word-same, length-line, line-word, l
 use Rattle.writer.proofs.Spelling.{line-spelled}
 
 -- ---- a line of a listing
+-- it has 40 bytes
+pub cut : (k : ℕ) → k * lineBytes + lineBytes - k * lineBytes ≡ lineBytes
+cut k = omega arith
+
 module _ (s : List ℕ) (k : ℕ) (t : List ℕ) (fs : List Field) (h : k * lineBytes + lineBytes ≤ length s) where
   length-before : length (take (k * lineBytes) s) ≡ k * lineBytes
   length-before = length-take-le (k * lineBytes) s (omega arith)

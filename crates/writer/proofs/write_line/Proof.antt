@@ -1,15 +1,9 @@
 -- The forty bytes of a line are cut out, set, and put back. Assumes nothing.
+use Rattle.writer.proofs.Laws.{cut}
 use Rattle.model.specs.Writing.{withLine}
-use Prim.Native.Nat.{ℕ, _+_, _*_, _-_}
-use mathlib.Core.Path.{_≡_}
-use native.Mathlib.Omega.{arith}
 use borrow.Author.Needs.{needs}
 use Rattle.writer.proofs.write_line.Statement.{statement}
 use Rattle.writer.proofs.write_line.Tie as tie
-
--- a line has 40 bytes
-cut : (k : ℕ) → k * 40 + 40 - k * 40 ≡ 40
-cut k = omega arith
 
 returns : tie.Need-returns
 unfolding withLine

@@ -1,5 +1,5 @@
 -- The line of the register is cut out of the text. Assumes nothing.
-use Rattle.saved.proofs.TextLines.{cut}
+use Rattle.writer.proofs.Laws.{cut}
 use borrow.Author.Needs.{needs}
 use Rattle.saved.proofs.states.with_register.Statement.{statement}
 use Rattle.saved.proofs.states.with_register.Tie as tie
