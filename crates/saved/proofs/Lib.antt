@@ -1,4 +1,4 @@
 pub mod StateLines
 pub mod StateText
-pub mod WorkedState
+pub mod StateReadBack
 pub mod BudgetDigits

@@ -1,6 +1,7 @@
 -- A state as text: 17 lines of 40 bytes in a listing's own form, a JUMP to the point and then a SETC for each register, in order.
 -- Every line is judged by 2 to 5, as a line of a listing is; a text that is anything else is no state.
-use Prim.Native.Nat.{ℕ, zero, suc, _+_}
+use Prim.Native.Nat.{ℕ, zero, suc, _+_, _<_, _≤_}
+use mathlib.Core.Path.{_≡_}
 use mathlib.Core.Bool.{Bool, true, false, _&&_, not, cond}
 use mathlib.Core.List.{List, [], _∷_}
 use lib.ListN.{length, getD, set, replicate}
@@ -11,7 +12,7 @@ use Rattle.model.specs.declared.text.Word.{Word}
 use Rattle.model.specs.declared.text.Word.the-variants.{Setc as SETC, Jump as JUMP}
 use Rattle.model.specs.declared.text.FoundWord.the-variants.{Known}
 use Rattle.model.specs.declared.machine.State.{State}
-use Rattle.model.specs.Limits.{registers}
+use Rattle.model.specs.Limits.{registers, MAX, greatestPoints}
 use Rattle.model.specs.Text.{space}
 use Rattle.model.specs.Answers.{isRefused}
 use Rattle.model.specs.Words.{textOf as wordText, begins}
@@ -101,3 +102,13 @@ registersSet t rs (suc v) = registerSet (registersSet t rs v) v (getD rs v 0)
 unfoldable pub textOf : State → List ℕ
 unfolding pointSet registersSet
 textOf s = registersSet (pointSet (replicate stateBytes space) (s .point)) (s .registers) registers
+
+-- a state that a run can hand back: sixteen registers of at most MAX, and a point below 512, as the JUMP line that names it takes no target above 511 and no listing has such a point
+pub record Savable (s : State) : Type 0 where
+  pub point : s .point < greatestPoints
+  pub sixteen : length (s .registers) ≡ registers
+  pub numbers : (v : ℕ) → getD (s .registers) v 0 ≤ MAX
+
+-- the law: such a state is read back from its text
+abbrev pub ReadBack : Type 0
+ReadBack = (s : State) → Savable s → savedIn (textOf s) ≡ record { whole = true; state = s }

@@ -1,14 +1,15 @@
 -- The two laws of the writer: what it writes is read back, and what is read is what it writes. Assumes nothing.
 use Prim.Native.Nat.{ℕ, _+_, _*_, _-_, _<_, _≤_}
 use native.Mathlib.Omega.{arith}
+use native.Mathlib.Decide.{decLt}
 use mathlib.Core.Path.{_≡_, refl, sym, ap, _∙_}
 use mathlib.Core.Bool.{Bool, true, false, cond, false≢true}
 use mathlib.Core.List.{List, _++_}
 use mathlib.Core.Logic.{_⊎_, inl, inr}
-use lib.ListN.{length, getD, take, drop, length-drop, length-append, List·getD-append}
-use lib.Seq.{take-at, drop-at, length-take-le, getD-take, getD-drop, getD-append-add}
+use lib.ListN.{length, getD, take, drop, length-take, length-drop, length-append, List·getD-append}
+use lib.Seq.{take-at, drop-at, length-take-le, getD-take, getD-drop, getD-append-add, ext-getD}
 use lib.Dec.{eqb}
-use borrow.Author.Tests.{eqb-true, eq-eqb}
+use borrow.Author.Tests.{eqb-true}
 use Rattle.model.specs.declared.text.Field.{Field}
 use Rattle.model.specs.declared.text.Word.{Word}
 use Rattle.model.specs.declared.text.Word.the-variants.{Stop, Setc, Copy, Addw, Subw, Mulw, Divf, Load, Stor, Jump, Bltu, Bequ, Leas, Most, Strp}
@@ -32,13 +33,16 @@ use Rattle.lines.proofs.AcceptedFields.{accepted}
 use Rattle.written_line.proofs.ReadBack.{Fits}
 use Rattle.writer.proofs.LineJudged.{word-four, found, room-bounds}
 use Rattle.writer.proofs.FieldsFit.{accepted-fits, fits-taken}
-use Rattle.written_line.proofs.LineFields.{word-same, length-line, line-word, line-fields, line-again, line-alike}
+use Rattle.written_line.proofs.LineFields.{begins-with, word-same, length-line, line-word, line-fields, line-again, line-alike}
 use Rattle.writer.proofs.Spelling.{line-spelled}
 
 -- ---- a line of a listing
 -- it has 40 bytes
 pub cut : (k : ℕ) → k * lineBytes + lineBytes - k * lineBytes ≡ lineBytes
 cut k = omega arith
+
+byte-at : (s : List ℕ) (k i : ℕ) → i < lineBytes → getD (lineAt s k) i 0 ≡ getD s (k * lineBytes + i) 0
+byte-at s k i h = getD-take lineBytes (drop (k * lineBytes) s) i 0 h ∙ getD-drop (k * lineBytes) s i 0
 
 module _ (s : List ℕ) (k : ℕ) (t : List ℕ) (fs : List Field) (h : k * lineBytes + lineBytes ≤ length s) where
   length-before : length (take (k * lineBytes) s) ≡ k * lineBytes
@@ -78,9 +82,21 @@ module _ (s : List ℕ) (k : ℕ) (t : List ℕ) (fs : List Field) (h : k * line
       let e : k * lineBytes + (lineBytes + (j - (k * lineBytes + lineBytes))) ≡ j = omega arith in
       rw e at (after-within (j - (k * lineBytes + lineBytes)))
 
+  pub others-within : (j : ℕ) → (j ≡ k → ⊥) → lineAt (withLine s k t fs) j ≡ lineAt s j
+  others-within j other = ext-getD 0 (lineAt (withLine s k t fs) j) (lineAt s j) (simp (length-take, length-drop, length-within)) byte
+    where
+      kept : (i : ℕ) → i < lineBytes → Dec (j < k) → getD (withLine s k t fs) (j * lineBytes + i) 0 ≡ getD s (j * lineBytes + i) 0
+      kept i h (yes b) = before-within (j * lineBytes + i) (omega arith)
+      kept i h (no b) = beyond-within (j * lineBytes + i) (omega arith)
+
+      byte : (i : ℕ) → i < length (lineAt (withLine s k t fs) j) → getD (lineAt (withLine s k t fs) j) i 0 ≡ getD (lineAt s j) i 0
+      byte i h =
+          let b : i < lineBytes = omega (arith, length-take lineBytes (drop (j * lineBytes) (withLine s k t fs))) in
+          byte-at (withLine s k t fs) j i b ∙ kept i b (decLt j k) ∙ sym (byte-at s j i b)
+
 -- ---- the judgement
 -- accepted fields fit
-fields-fit : (place : ℕ) (w : Word) (fs : List Field) → judged place (Known w) fs ≡ Accepted → (j : ℕ) → j < 6 → Fits (widthOf j) (fieldAt fs j)
+pub fields-fit : (place : ℕ) (w : Word) (fs : List Field) → judged place (Known w) fs ≡ Accepted → (j : ℕ) → j < 6 → Fits (widthOf j) (fieldAt fs j)
 unfolding inShape inLimits
 fields-fit place w fs e j h =
     let (shape, limits) = accepted place w fs e in
@@ -205,9 +221,8 @@ pub written-is-read : WrittenIsRead
 written-is-read t fs n s six e = read-back t fs n s (call-set t fs n s e) six
 
 -- a line begins with its first four bytes
-begins-itself : (l : List ℕ) → begins l (take 4 l) ≡ true
-unfolding begins
-begins-itself l = rw (getD-take 4 l 0 0 (omega arith), getD-take 4 l 1 0 (omega arith), getD-take 4 l 2 0 (omega arith), getD-take 4 l 3 0 (omega arith), eq-eqb (getD l 0 0) _ refl, eq-eqb (getD l 1 0) _ refl, eq-eqb (getD l 2 0) _ refl, eq-eqb (getD l 3 0) _ refl)
+begins-first : (l : List ℕ) → begins l (take 4 l) ≡ true
+begins-first l = begins-with l (take 4 l) (λ i h. sym (getD-take 4 l i 0 h))
 
 -- a line that is well spelled ends
 ended : (l : List ℕ) → wellSpelled l ≡ true → getD l 39 0 ≡ lineEnd
@@ -228,5 +243,5 @@ read-is-written place l e taken n s room =
       j,
       line-after (take 4 l) (fieldsIn l) n s c
           ∙ line-alike (lineAt s (n - 1)) l (take 4 l) (fieldsIn l) (length-at s (n - 1) (take 4 l) (fieldsIn l) (inside (take 4 l) (fieldsIn l) n s c)) e
-          ∙ line-again l (take 4 l) (begins-itself l) (ended l (r .spelled)) (λ i h. fits-taken _ _ (fields-fit place (r .word) (fieldsIn l) (r .fields place) i h)),
+          ∙ line-again l (take 4 l) (begins-first l) (ended l (r .spelled)) (λ i h. fits-taken _ _ (fields-fit place (r .word) (fieldsIn l) (r .fields place) i h)),
     )

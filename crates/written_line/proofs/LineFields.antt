@@ -9,7 +9,7 @@ use mathlib.Core.List.{List, [], _∷_}
 use lib.ListN.{getD, set, length, length-set}
 use lib.Seq.{getD-set-same, getD-set-other, set-getD, ext-getD}
 use lib.Dec.{leb, eqb}
-use borrow.Author.Tests.{eqb-true, leb-true, leb-false, ne-eqb}
+use borrow.Author.Tests.{eqb-true, leb-true, leb-false, eq-eqb, ne-eqb}
 use Rattle.model.specs.declared.text.Field.{Field}
 use Rattle.model.specs.declared.text.Field.the-variants.{Blank}
 use Rattle.model.specs.declared.text.Word.{Word}
@@ -113,6 +113,13 @@ word-set (x ∷ (y ∷ (z ∷ (u ∷ l)))) t h (suc (suc (suc (suc i)))) b = abs
 begins-same : (s t u : List ℕ) → ((i : ℕ) → i < 4 → getD s i 0 ≡ getD t i 0) → begins s u ≡ begins t u
 unfolding begins
 begins-same s t u e = rw (e 0 (omega arith), e 1 (omega arith), e 2 (omega arith), e 3 (omega arith))
+
+pub begins-itself : (t : List ℕ) → begins t t ≡ true
+unfolding begins
+begins-itself t = rw (eq-eqb (getD t 0 0) _ refl, eq-eqb (getD t 1 0) _ refl, eq-eqb (getD t 2 0) _ refl, eq-eqb (getD t 3 0) _ refl)
+
+pub begins-with : (s t : List ℕ) → ((i : ℕ) → i < 4 → getD s i 0 ≡ getD t i 0) → begins s t ≡ true
+begins-with s t e = begins-same s t t e ∙ begins-itself t
 
 pub word-same : (ws : List Word) (s t : List ℕ) → ((i : ℕ) → i < 4 → getD s i 0 ≡ getD t i 0) → wordAmong ws s ≡ wordAmong ws t
 unfolding wordAmong
