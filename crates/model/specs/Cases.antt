@@ -1,8 +1,8 @@
 -- Document 01, 'Worked listings': C1 to C10 with every variant stated there, as one table with one theorem, by computation.
 -- Answers are stated in numbers: the points of a listing that passes, or a refusal's number, place and second place, 0 for none.
 -- The rows after C10 go beyond them: each number that C1 to C10 do not show, 2 to 11, 15 and 16, and 12 once more, most with a second fault
--- that is tested later; three rows of the printer and the runner; the call for claim lines; and the slips that document 01 names, each
--- beside a like listing that passes. C9 is the slip of the address. A third variable in a link and a fourth link stand with the slips:
+-- that is tested later; three rows of the printer and the runner; the call for claim lines; the slips that document 01 names, each beside a
+-- like listing that passes; and document 02's requests, T-01 with a row for each of its clauses. C9 is the slip of the address. A third variable in a link and a fourth link stand with the slips:
 -- no run goes wrong by them, so that soundness does not refuse them. 8 is shown on points that are read: 513 lines are too many to read by computation.
 -- A listing is written a row a line: the word and the six fields, each as the text that stands at the right of its columns.
 use Prim.Native.Nat.{ℕ, zero, suc, _+_, _-_}
@@ -10,11 +10,12 @@ use Prim.Native.String.{String}
 use mathlib.Core.Path.{_≡_, refl}
 use mathlib.Core.List.{List, [], _∷_, _++_, map}
 use lib.ListN.{length, replicate}
-use Rattle.model.specs.Types.{Copy, State, Refusal, Judgement, Accepted, refused, Verdict, Passed, refusedVerdict, Report, Stopped, Paused, refusedRun}
+use Rattle.model.specs.Types.{Field, Blank, Number, Negative, Copy, State, Refusal, Judgement, Accepted, refused, Verdict, Passed, refusedVerdict, Report, Stopped, Paused, refusedRun}
 use Rattle.model.specs.Text.{space}
 use Rattle.model.specs.Words.{bytes}
 use Rattle.model.specs.Answers.{numberOf, placeOf, secondPlaceOf}
 use Rattle.model.specs.Listing.{Point, wholeJudged, listingOf, claimLinesJudged, claimLines}
+use Rattle.model.specs.Writing.{roomFor, lineJudged, listingSet}
 use Rattle.model.specs.Machine.{lent}
 use Rattle.model.specs.Check.{check}
 use Rattle.model.specs.Run.{Ran, run}
@@ -319,7 +320,7 @@ abbrev ofJudgement : Judgement → Answer
 ofJudgement Accepted = accepts
 ofJudgement (refused r) = ofRefusal r
 
--- what a call hands back: an answer alone, a line, an answer with a part of the listing, or a run's answer, steps, state, trays and results
+-- what a call hands back: an answer alone, a line, an answer with a listing or a part of it, or a run's answer, steps, state, trays and results
 data HandedBack : Type 0 where
   answer : Answer → HandedBack
   line : List ℕ → HandedBack
@@ -354,6 +355,22 @@ runs l s ts rs n h = record { given = ofRun (run l s (lent ts rs) n); stated = h
 -- the claim lines of a point
 abbrev claimsAt : List ℕ → ℕ → Answer → List ℕ → Case
 claimsAt l p a ls = record { given = part (ofJudgement (claimLinesJudged (listingOf l) p)) (claimLines l p); stated = part a ls }
+
+-- six fields
+abbrev six : Field → Field → Field → Field → Field → Field → List Field
+six f1 f2 f3 f4 f5 f6 = f1 ∷ f2 ∷ f3 ∷ f4 ∷ f5 ∷ f6 ∷ []
+
+-- a line that is set in a listing from a word, six fields and its number: the answer and the listing after it
+abbrev sets : String → List Field → ℕ → List ℕ → Answer → List ℕ → Case
+sets w fs n l a after = record { given = part (ofJudgement (lineJudged (bytes w) fs n l)) (listingSet (bytes w) fs n l); stated = part a after }
+
+-- the same where the call is turned back and changes no byte of n zeros
+abbrev setsNothing : String → List Field → ℕ → ℕ → Answer → Case
+setsNothing w fs n size a = sets w fs n (replicate size 0) a (replicate size 0)
+
+-- the room for line n in a listing of so many bytes
+abbrev hasRoom : ℕ → ℕ → Answer → Case
+hasRoom n size a = record { given = answer (ofJudgement (roomFor n size)); stated = answer a }
 
 -- all cases
 abbrev table : List Case
@@ -416,6 +433,28 @@ table =
     ∷ checked (chained "4") (refusedBy 13 6 0)
     ∷ checked (looping "4") (passes 4)
     ∷ checked (looping "5") (refusedBy 14 5 2)
+    -- T-01, lines that are set: between others, with a minus, at the end of a listing that has bytes more
+    ∷ sets "LEAS" (six (Number 16) Blank Blank Blank Blank (Number 4)) 2 (replicate 120 0) accepts (replicate 40 0 ++ row "LEAS" "16" "" "" "" "" "4" ++ replicate 40 0)
+    ∷ sets "STRP" (six (Number 17) (Number 255) (Number 0) Blank Blank (Negative 4398046511104)) 1 (replicate 40 0) accepts (row "STRP" "17" "255" "0" "" "" "-4398046511104")
+    ∷ sets "STOP" (six Blank Blank Blank Blank Blank Blank) 2 (replicate 81 0) accepts (replicate 40 0 ++ row "STOP" "" "" "" "" "" "" ++ (0 ∷ []))
+    -- no word, also of three and of five bytes; the place is the line as it was given
+    ∷ setsNothing "HALT" (six (Negative 0) Blank Blank Blank Blank Blank) 7 40 (refusedBy 3 7 0)
+    ∷ setsNothing "STO" (six Blank Blank Blank Blank Blank Blank) 1 40 (refusedBy 3 1 0)
+    ∷ setsNothing "STOPS" (six Blank Blank Blank Blank Blank Blank) 1 40 (refusedBy 3 1 0)
+    -- 4: a field that is due is blank while another is outside its limits, a wide number where a blank is due, a minus where none may stand, a minus on 0
+    ∷ setsNothing "COPY" (six (Number 16) Blank Blank Blank Blank Blank) 0 40 (refusedBy 4 0 0)
+    ∷ setsNothing "STOP" (six (Number 100000) Blank Blank Blank Blank Blank) 1 40 (refusedBy 4 1 0)
+    ∷ setsNothing "SETC" (six (Number 0) Blank Blank Blank Blank (Negative 100000000000000000)) 1 40 (refusedBy 4 1 0)
+    ∷ setsNothing "STRP" (six (Number 17) (Number 4) (Number 1) Blank Blank (Negative 0)) 1 40 (refusedBy 4 1 0)
+    -- 5: a number that is too wide for its columns, with a minus or without, and one outside its limits, before 18
+    ∷ setsNothing "COPY" (six (Number 10000) (Number 0) Blank Blank Blank Blank) 1639 40 (refusedBy 5 1639 0)
+    ∷ setsNothing "STRP" (six (Number 17) (Number 4) (Number 1) Blank Blank (Negative 1000000000000000)) 1 40 (refusedBy 5 1 0)
+    ∷ setsNothing "SETC" (six (Number 0) Blank Blank Blank Blank (Number 4294967296)) 2 40 (refusedBy 5 2 0)
+    -- 18: line 0, a listing that ends a byte before the line does, and lines that no listing has
+    ∷ setsNothing "STOP" (six Blank Blank Blank Blank Blank Blank) 0 40 (refusedBy 18 0 0)
+    ∷ setsNothing "STOP" (six Blank Blank Blank Blank Blank Blank) 2 79 (refusedBy 18 0 0)
+    ∷ hasRoom 1638 65520 accepts
+    ∷ hasRoom 1639 65560 (refusedBy 18 0 0)
     ∷ []
 
 -- what the definitions give in a case
@@ -428,5 +467,5 @@ stated c = c .stated
 
 -- the theorem: every answer is the one stated
 worked : map given table ≡ map stated table
-unfolding check wholeJudged printed run claimLines
+unfolding check wholeJudged printed run claimLines roomFor lineJudged listingSet
 worked = refl

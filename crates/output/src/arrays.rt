@@ -43,13 +43,8 @@ pub fn part_numbers(c: ClaimPart) -> [u64; 4]
     let at = c.offset as u64;
     let n = c.length as u64;
     let j = c.judgement;
-    match j {
-        Judgement::Accepted => [0, 0, at, n],
-        Judgement::Refused(r) => {
-            let x = numbers(r);
-            [x.number, x.place, at, n]
-        }
-    }
+    let x = judgement_numbers(j);
+    [x[0], x[1], at, n]
 }
 
 // How a run ended, as six numbers.

@@ -28,7 +28,7 @@ use Rattle.writer.proofs.Laws.{length-at, line-within, length-within, others-wi
 use Rattle.saved.specs.declared.states.Target.the-variants.{Point}
 use Rattle.saved.specs.declared.states.Setting.the-variants.{Value}
 use Rattle.saved.specs.declared.states.Reading.{Reading}
-use Rattle.saved.specs.States.{stateBytes, isLineOf, targetOn, settingOn, withSetting, registersTo, savedIn, pointFields, registerFields, pointSet, registerSet, registersSet, textOf, ReadBack}
+use Rattle.saved.specs.States.{stateBytes, isLineOf, targetOn, settingOn, withSetting, registersTo, savedIn, pointFields, registerFields, pointSet, registerSet, registersSet, textOf, StateReadBack}
 use Rattle.saved.proofs.StateLines.{begun, target, setting}
 use Rattle.saved.proofs.StateText.{saved-whole}
 
@@ -142,7 +142,7 @@ module _ (t : List ℕ) (s : State) (numbers : (v : ℕ) → v < registers → s
       saved-whole t e ∙ rw (point, d .whole, same)
 
 -- ---- the law
-pub read-back : ReadBack
+pub read-back : StateReadBack
 unfolding textOf
 read-back s h =
     let blank = length-replicate stateBytes space in

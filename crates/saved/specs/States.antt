@@ -110,5 +110,5 @@ pub record Savable (s : State) : Type 0 where
   pub numbers : (v : ℕ) → getD (s .registers) v 0 ≤ MAX
 
 -- the law: such a state is read back from its text
-abbrev pub ReadBack : Type 0
-ReadBack = (s : State) → Savable s → savedIn (textOf s) ≡ record { whole = true; state = s }
+abbrev pub StateReadBack : Type 0
+StateReadBack = (s : State) → Savable s → savedIn (textOf s) ≡ record { whole = true; state = s }

@@ -30,7 +30,7 @@ use Rattle.model.specs.Writing.{wordOf, roomFor, lineJudged, withLine, listingI
 use Rattle.model.proofs.Tests.{and-left, and-right, every-below}
 use Rattle.model.proofs.Reading.{both-accepted}
 use Rattle.lines.proofs.AcceptedFields.{accepted}
-use Rattle.written_line.proofs.ReadBack.{Fits}
+use Rattle.written_line.proofs.ColumnsRead.{Fits}
 use Rattle.writer.proofs.LineJudged.{word-four, found, room-bounds}
 use Rattle.writer.proofs.FieldsFit.{accepted-fits, fits-taken}
 use Rattle.written_line.proofs.LineFields.{begins-with, word-same, length-line, line-word, line-fields, line-again, line-alike}

@@ -20,6 +20,7 @@ use Rattle.model.specs.Lines.{judged, wordSet, lineSet}
 use Rattle.model.specs.Writing.{wordOf, roomFor, lineJudged, withLine, listingIf, listingSet}
 use Rattle.model.proofs.Tests.{and-right}
 use Rattle.model.proofs.Judgements.{accepted}
+use Rattle.model.proofs.Reading.{both-accepted}
 use Rattle.written_line.proofs.LineFields.{bytes-of-word}
 
 -- ---- the word
@@ -84,17 +85,12 @@ room-bounds n size e = go (leb 1 n) (leb n greatestLines) (leb (n * lineBytes) s
     go true false c p r e = absurd (false≢true (sym e))
     go false b c p r e = absurd (false≢true (sym e))
 
+pub both-bounds : (j k both : Judgement) (n size : ℕ) → both ≡ (j andThen k) → k ≡ roomFor n size → isRefused both ≡ false → (1 ≤ n) × (n * lineBytes ≤ size)
+both-bounds j k both n size e q r =
+    let (_, room) = both-accepted j k (sym e ∙ accepted both r) in
+    room-bounds n size (ap isRefused (sym q ∙ room))
+
 -- ---- the listing after the call
--- 3, 4 and 5 before 18: where they turn back, and where they do not
-pub refused-first : (j k : Judgement) (s₁ s₀ : List ℕ) → isRefused j ≡ true → (j ≡ (j andThen k)) × (s₀ ≡ listingIf (j andThen k) s₁ s₀)
-unfolding listingIf
-refused-first Accepted k s₁ s₀ e = absurd (false≢true e)
-refused-first (refused r) k s₁ s₀ e = (refl, refl)
-
-pub accepted-first : (n : ℕ) (w : Word) (fs : List Field) (j k : Judgement) (s₂ s₁ s₀ : List ℕ) → judged n (Known w) fs ≡ Accepted → (j ≡ k) × (s₂ ≡ listingIf k s₁ s₀)
-    → (j ≡ (judged n (Known w) fs andThen k)) × (s₂ ≡ listingIf (judged n (Known w) fs andThen k) s₁ s₀)
-accepted-first n w fs j k s₂ s₁ s₀ e h = rw e h
-
 pub kept-if : (j : Judgement) (s₁ s₀ : List ℕ) → isRefused j ≡ true → s₀ ≡ listingIf j s₁ s₀
 unfolding listingIf
 kept-if Accepted s₁ s₀ e = absurd (false≢true e)

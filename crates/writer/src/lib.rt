@@ -51,29 +51,29 @@ pub fn write_line(s: &mut [u8], k: usize, w: Word, fs: [Field; 6])
     written_line::set_line(&mut s[a..e], &t, fs);
 }
 
-// Sets line n where there is room for it.
-fn set_in_room(w: Word, fs: [Field; 6], n: usize, s: &mut [u8]) -> Judgement
-    ensures { λ r. ⌜ r ≡ roomFor n (length (now (s .entry))) ⌝ }
-    ensures { λ _. ⌜ now (s .exit) ≡ listingIf (roomFor n (length (now (s .entry)))) (withLine (now (s .entry)) (n - 1) (textOf w) fs) (now (s .entry)) ⌝ }
+// Of two tests made in order, the first refusal.
+fn first(j: Judgement, k: Judgement) -> Judgement
+    ensures { λ r. ⌜ r ≡ (j andThen k) ⌝ }
 {
-    let room = room_for(n, s.len());
-    if is_refused(room) {
-        return room;
+    if is_refused(j) {
+        return j;
     }
-    write_line(s, n - 1, w, fs);
-    room
+    k
 }
 
-// Sets line n to a word and its fields, where these are accepted.
+// Sets line n to a word and its fields, where nothing turns them back.
 fn set_known(w: Word, fs: [Field; 6], n: usize, s: &mut [u8]) -> Judgement
     ensures { λ r. ⌜ r ≡ (judged n (Known w) fs andThen roomFor n (length (now (s .entry)))) ⌝ }
     ensures { λ _. ⌜ now (s .exit) ≡ listingIf (judged n (Known w) fs andThen roomFor n (length (now (s .entry)))) (withLine (now (s .entry)) (n - 1) (textOf w) fs) (now (s .entry)) ⌝ }
 {
     let judgement = judge(n, FoundWord::Known(w), fs);
-    if is_refused(judgement) {
-        return judgement;
+    let room = room_for(n, s.len());
+    let both = first(judgement, room);
+    if is_refused(both) {
+        return both;
     }
-    set_in_room(w, fs, n, s)
+    write_line(s, n - 1, w, fs);
+    both
 }
 
 // Sets line n of a listing, counted from 1, to a word and six fields, or turns the call back and changes no byte.

@@ -1,5 +1,5 @@
 pub mod OtherColumns
-pub mod ReadBack
-pub mod SetAgain
+pub mod ColumnsRead
+pub mod ColumnsSetAgain
 pub mod LineFields
 pub mod ClearedColumns

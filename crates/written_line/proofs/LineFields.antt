@@ -19,8 +19,8 @@ use Rattle.model.specs.Lines.{columnOf, widthOf, fieldsIn, fieldAt, wordSet, fi
 use Rattle.model.proofs.Tests.{and-left, and-right}
 use Rattle.columns.proofs.FieldColumns.{columns-fit}
 use Rattle.written_line.proofs.OtherColumns.{length-field, field-kept, field-alike}
-use Rattle.written_line.proofs.ReadBack.{Fits, field-read, field-same}
-use Rattle.written_line.proofs.SetAgain.{Taken, field-set}
+use Rattle.written_line.proofs.ColumnsRead.{Fits, field-read, field-same}
+use Rattle.written_line.proofs.ColumnsSetAgain.{Taken, field-set}
 
 -- all but the last field have four columns
 width-before : (j n : ℕ) → j < n → n < 6 → widthOf j ≡ 4

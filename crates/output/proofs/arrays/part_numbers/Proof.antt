@@ -1,16 +1,10 @@
-use borrow.Author.Needs.{needs}
+-- The two numbers of the judgement and the place of the part. Assumes nothing.
 use Rattle.output.proofs.arrays.part_numbers.Statement.{statement}
 use Rattle.output.proofs.arrays.part_numbers.Tie as tie
-
-enum-told : tie.Need-enum-told
-enum-told c = search needs
+use borrow.Author.Needs.{needs}
 
 returns : tie.Need-returns
-returns c = simp (c .enum-told .given .1)
-
-returns-2 : tie.Need-returns-2
-returns-2 c = rw (c .before .before .j .given .1) (let told = c .numbers .ensures in rw (told .0, told .1))
+returns c = rw (c .judgement-numbers .ensures)
 
 pub part-numbers-spec : {M : Type 1} → statement M
-part-numbers-spec =
-    tie.close (tie.spec enum-told (λ c. search needs) (λ c κs. search needs) returns returns-2)
+part-numbers-spec = tie.close (tie.spec (λ c κs. search needs) (λ c. search needs) (λ c. search needs) returns)
