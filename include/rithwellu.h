@@ -1,4 +1,4 @@
-/* The checker, the claim lines and the runner for C. Link with target/staticlib/libexports.a (rt staticlib exports).
+/* The checker, the claim lines, the setting of lines and the runner for C. Link with target/staticlib/libexports.a (rt staticlib exports).
    Every pointer is valid for its length, and none may be null, also where its length is 0. */
 #ifndef RITHWELLU_H
 #define RITHWELLU_H
@@ -27,6 +27,19 @@ void rithwellu_print(const uint8_t *listing, size_t len, uint8_t line[40]);
    answer[3] how many bytes it has, 0 where the point has no claims.
    A call that is turned back has 0 in answer[2] and answer[3]. */
 void rithwellu_claim_lines(const uint8_t *listing, size_t len, size_t point, uint64_t answer[4]);
+
+/* What a field holds. */
+enum { RITHWELLU_BLANK = 0, RITHWELLU_NUMBER = 1, RITHWELLU_NEGATIVE = 2 };
+
+/* Sets one line of the listing, counted from 1, to the word of word_len bytes at word and the fields F1 to F6.
+   kinds[j] says what a field holds; any other kind than the three above is a field of wrong shape.
+   numbers[j] is its number, of a negative one without its minus; that of a blank is not looked at.
+   answer[0] the number of the refusal, 3, 4, 5 or 18 in this order, or 0 where the line was set;
+   answer[1] for 3, 4 and 5 the line as given, else 0.
+   Every other byte stays, and a call that is turned back changes none. The listing may have any length; line is from
+   1 to 1,638 and ends within the listing, or it is 18. Word, kinds, numbers and listing must not overlap. */
+void rithwellu_set_line(const uint8_t *word, size_t word_len, const uint8_t kinds[6], const uint64_t numbers[6],
+                        size_t line, uint8_t *listing, size_t len, uint64_t answer[2]);
 
 /* A run of the listing from a point and sixteen registers, over both tables, with a budget of steps.
    The registers and the results then hold what the run hands back:

@@ -1,12 +1,12 @@
 // The checker, the claim lines, the runner and the writer of lines for C and Rust.
 use model::limits::REGISTERS;
 use model::machine::State;
-use model::text::Field;
 use output::arrays::judgement_numbers;
 use output::arrays::part_numbers;
 use output::arrays::run_numbers;
 use output::arrays::verdict_numbers;
 use runner::Ending;
+use writer::kinds::fields_of_kinds;
 ghost use mathlib.Core.Path.{_≡_};
 ghost use Rattle.model.specs.Listing.{claimPart};
 ghost use Rattle.model.specs.Writing.{lineJudged, listingSet};
@@ -16,7 +16,8 @@ ghost use Rattle.model.specs.Machine.{lent};
 ghost use Rattle.model.specs.Run as Run;
 ghost use Rattle.output.specs.Arrays.{answerOf, judgedAnswer, partAnswer, runAnswer};
 ghost use Rattle.runner.specs.Runs.{state};
-ghost use Rattle.exports.specs.Answer.{fieldOfKind, fieldsOfKinds, RunAnswered, RunAnsweredInPlace};
+ghost use Rattle.writer.specs.Kinds.{fieldsOfKinds};
+ghost use Rattle.exports.specs.Answer.{RunAnswered, RunAnsweredInPlace};
 
 // The checker's answer for a listing: number, place, second place, points.
 #[no_mangle]
@@ -42,35 +43,6 @@ pub extern "C" fn rithwellu_claim_lines(listing: &[u8], point: usize, answer: &m
     *answer = part_numbers(claim_parts::claim_part(listing, point));
 }
 
-// The field of a kind and a number: blank, a number, a negative number; every other kind is misshapen.
-fn field_of_kind(kind: u8, number: u64) -> Field
-    ensures { λ r. ⌜ r ≡ fieldOfKind kind number ⌝ }
-{
-    if kind == 0 {
-        return Field::Blank;
-    }
-    if kind == 1 {
-        return Field::Number(number);
-    }
-    if kind == 2 {
-        return Field::Negative(number);
-    }
-    Field::Misshapen
-}
-
-// The six fields of kinds and numbers.
-fn fields_of_kinds(kinds: &[u8; 6], numbers: &[u64; 6]) -> [Field; 6]
-    ensures { λ r. ⌜ r ≡ fieldsOfKinds (now (kinds .entry)) (now (numbers .entry)) ⌝ }
-{
-    let f1 = field_of_kind(kinds[0], numbers[0]);
-    let f2 = field_of_kind(kinds[1], numbers[1]);
-    let f3 = field_of_kind(kinds[2], numbers[2]);
-    let f4 = field_of_kind(kinds[3], numbers[3]);
-    let f5 = field_of_kind(kinds[4], numbers[4]);
-    let f6 = field_of_kind(kinds[5], numbers[5]);
-    [f1, f2, f3, f4, f5, f6]
-}
-
 // Sets a line of the listing, counted from 1, from a word and six fields: number and place of the refusal, or 0.
 #[no_mangle]
 pub extern "C" fn rithwellu_set_line(
@@ -85,7 +57,8 @@ pub extern "C" fn rithwellu_set_line(
     ensures { λ _. ⌜ now (listing .exit) ≡ listingSet (now (word .entry)) (fieldsOfKinds (now (kinds .entry)) (now (numbers .entry))) line (now (listing .entry)) ⌝ }
 {
     let fields = fields_of_kinds(kinds, numbers);
-    *answer = judgement_numbers(writer::set_line(word, fields, line, listing));
+    let judgement = writer::set_line(word, fields, line, listing);
+    *answer = judgement_numbers(judgement);
 }
 
 // A run from a point and registers, which then hold the state handed back with the point of the answer:

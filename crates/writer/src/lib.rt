@@ -1,4 +1,6 @@
 // One line of a lent listing, set from a word, six fields and the line's number.
+pub mod kinds;
+
 use lines::fields::judge;
 use lines::words;
 use model::answers::Judgement;
