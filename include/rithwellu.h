@@ -1,4 +1,5 @@
-/* The checker, the claim lines, the setting of lines and the runner for C. Link with target/staticlib/libexports.a (rt staticlib exports).
+/* The checker, the claim lines and the runner for C: link with target/staticlib/libexports.a (rt staticlib exports).
+   The setting of lines: link with target/staticlib/libwriter_exports.a (rt staticlib writer_exports).
    Every pointer is valid for its length, and none may be null, also where its length is 0. */
 #ifndef RITHWELLU_H
 #define RITHWELLU_H
@@ -28,7 +29,7 @@ void rithwellu_print(const uint8_t *listing, size_t len, uint8_t line[40]);
    A call that is turned back has 0 in answer[2] and answer[3]. */
 void rithwellu_claim_lines(const uint8_t *listing, size_t len, size_t point, uint64_t answer[4]);
 
-/* What a field holds. */
+/* What a field of a line that is set holds. */
 enum { RITHWELLU_BLANK = 0, RITHWELLU_NUMBER = 1, RITHWELLU_NEGATIVE = 2 };
 
 /* Sets one line of the listing, counted from 1, to the word of word_len bytes at word and the fields F1 to F6.

@@ -14,6 +14,7 @@ use reader::places::first_of;
 ghost use mathlib.Core.Path.{_≡_};
 ghost use mathlib.Core.Bool.{true, cond};
 ghost use Prim.Native.Nat.{_+_, _≤_};
+ghost use Rattle.model.specs.Limits.{greatestLines};
 ghost use Rattle.model.specs.declared.answers.Judgement.the-variants.{Accepted};
 ghost use Rattle.model.specs.Facts as Model;
 ghost use Rattle.model.specs.Transfer.{factsAlong};
@@ -24,7 +25,6 @@ ghost use Rattle.facts.specs.StripeRows.{SizedRows};
 ghost use Rattle.facts.specs.Laid.{Laid, Sized};
 ghost use Rattle.decoded.specs.Decoded.{claimsFrom};
 ghost use Rattle.facts.specs.Known.{known, AtPoint};
-ghost use Rattle.reader.specs.Sizes.{greatestLines};
 ghost use Rattle.reader.specs.Points.{ClaimRows, Placed, pointIn};
 
 // The line of the first of n claims, from row from on, that does not follow; 0 for none.

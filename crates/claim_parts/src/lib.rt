@@ -13,9 +13,9 @@ ghost use mathlib.Core.List.{List};
 ghost use Prim.Native.Nat.{ℕ, _≤_, _<_};
 ghost use lib.ListN.{length};
 ghost use Rattle.model.specs.declared.answers.Judgement.the-variants.{Accepted, Refused as refused};
-ghost use Rattle.model.specs.Limits.{greatestPoints};
+ghost use Rattle.model.specs.Limits.{greatestPoints, greatestLines};
 ghost use Rattle.model.specs.Listing.{Point, listingOf, claimLinesJudged, claimLines, partJudged, claimPart};
-ghost use Rattle.reader.specs.Sizes.{placeNumbers, greatestLines};
+ghost use Rattle.reader.specs.Sizes.{placeNumbers};
 ghost use Rattle.reader.specs.Points.{lineIn, numberIn, pointIn};
 
 // The part of a point that is read.

@@ -1,22 +1,18 @@
-// The checker, the claim lines, the runner and the writer of lines for C and Rust.
+// The checker, the claim lines and the runner for C and Rust.
 use model::limits::REGISTERS;
 use model::machine::State;
-use output::arrays::judgement_numbers;
 use output::arrays::part_numbers;
 use output::arrays::run_numbers;
 use output::arrays::verdict_numbers;
 use runner::Ending;
-use writer::kinds::fields_of_kinds;
 ghost use mathlib.Core.Path.{_≡_};
 ghost use Rattle.model.specs.Listing.{claimPart};
-ghost use Rattle.model.specs.Writing.{lineJudged, listingSet};
 ghost use Rattle.model.specs.Check.{check};
 ghost use Rattle.model.specs.Output.{printed};
 ghost use Rattle.model.specs.Machine.{lent};
 ghost use Rattle.model.specs.Run as Run;
-ghost use Rattle.output.specs.Arrays.{answerOf, judgedAnswer, partAnswer, runAnswer};
+ghost use Rattle.output.specs.Arrays.{answerOf, partAnswer, runAnswer};
 ghost use Rattle.runner.specs.Runs.{state};
-ghost use Rattle.writer.specs.Kinds.{fieldsOfKinds};
 ghost use Rattle.exports.specs.Answer.{RunAnswered, RunAnsweredInPlace};
 
 // The checker's answer for a listing: number, place, second place, points.
@@ -41,24 +37,6 @@ pub extern "C" fn rithwellu_claim_lines(listing: &[u8], point: usize, answer: &m
     ensures { λ _. ⌜ now (answer .exit) ≡ partAnswer (claimPart (now (listing .entry)) point) ⌝ }
 {
     *answer = part_numbers(claim_parts::claim_part(listing, point));
-}
-
-// Sets a line of the listing, counted from 1, from a word and six fields: number and place of the refusal, or 0.
-#[no_mangle]
-pub extern "C" fn rithwellu_set_line(
-    word: &[u8],
-    kinds: &[u8; 6],
-    numbers: &[u64; 6],
-    line: usize,
-    listing: &mut [u8],
-    answer: &mut [u64; 2],
-)
-    ensures { λ _. ⌜ now (answer .exit) ≡ judgedAnswer (lineJudged (now (word .entry)) (fieldsOfKinds (now (kinds .entry)) (now (numbers .entry))) line (now (listing .entry))) ⌝ }
-    ensures { λ _. ⌜ now (listing .exit) ≡ listingSet (now (word .entry)) (fieldsOfKinds (now (kinds .entry)) (now (numbers .entry))) line (now (listing .entry)) ⌝ }
-{
-    let fields = fields_of_kinds(kinds, numbers);
-    let judgement = writer::set_line(word, fields, line, listing);
-    *answer = judgement_numbers(judgement);
 }
 
 // A run from a point and registers, which then hold the state handed back with the point of the answer:

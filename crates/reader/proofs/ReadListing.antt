@@ -13,7 +13,7 @@ use Rattle.model.specs.declared.answers.Refusal.{Refusal}
 use Rattle.model.specs.declared.answers.Refusal.the-variants.{ListingLength, NoSuchTarget}
 use Rattle.model.specs.declared.answers.Judgement.{Judgement}
 use Rattle.model.specs.declared.answers.Judgement.the-variants.{Accepted, Refused as refused}
-use Rattle.model.specs.Limits.{lineBytes, greatestListing, greatestPoints}
+use Rattle.model.specs.Limits.{lineBytes, greatestListing, greatestPoints, greatestLines}
 use Rattle.model.specs.Answers.{_andThen_}
 use Rattle.model.specs.Instructions.{targets, goesOn}
 use Rattle.model.specs.Listing.{Point, pointAt, targetsExist, endsWithInstruction, fewPoints, allTargetsExist, endsInPlace, startsNonEmpty, wholeJudged, Reading, going, refusedReading, readTo, refusedListing, listingOr, listingFrom, goodLength, listingOf}
@@ -23,7 +23,7 @@ use Rattle.model.proofs.Reading.{both-accepted, test-passed, WellFormed, well-f
 use Rattle.reader.specs.declared.scan.Scan.{Scan}
 use Rattle.reader.specs.declared.scan.Progress.the-variants.{Going, Turned}
 use Rattle.reader.specs.declared.listing.Listing.{Listing}
-use Rattle.reader.specs.Sizes.{greatestLines, placeNumbers}
+use Rattle.reader.specs.Sizes.{placeNumbers}
 use Rattle.reader.specs.Scan.{scanOf, progressOf}
 use Rattle.reader.specs.Points.{pointIn, pointsIn, Holds}
 use Rattle.reader.specs.Read.{Scanned, ScannedSo, AllRead}

@@ -18,7 +18,7 @@ use Rattle.model.specs.declared.claims.Line.{Line}
 use Rattle.model.specs.declared.claims.Line.the-variants.{Refused as refusedLine, Claim as claimLine, Instruction as instructionLine}
 use Rattle.model.specs.declared.answers.Refusal.{Refusal}
 use Rattle.model.specs.declared.answers.Refusal.the-variants.{ClaimOrder}
-use Rattle.model.specs.Limits.{lineBytes, greatestPoints, greatestStripes}
+use Rattle.model.specs.Limits.{lineBytes, greatestPoints, greatestStripes, greatestLines}
 use Rattle.model.specs.Limited.{Limited, ClaimLimited, LineLimited}
 use Rattle.model.specs.Lines.{readLine}
 use Rattle.model.specs.Listing.{Point, lineAt, pointAt, mayFollowAll, stripesAmong, inOrder, Reading, going, refusedReading, afterLine, readTo}
@@ -33,7 +33,7 @@ use Rattle.decoded.proofs.Claims.{claim-held, claims-next, claims-kept}
 use Rattle.reader.specs.declared.read.Read.{Read}
 use Rattle.reader.specs.declared.scan.Progress.{Progress}
 use Rattle.reader.specs.declared.scan.Progress.the-variants.{Turned}
-use Rattle.reader.specs.Sizes.{greatestLines, placeNumbers}
+use Rattle.reader.specs.Sizes.{placeNumbers}
 use Rattle.reader.specs.Scan.{sortOf, progressOf, afterScan, Within}
 use Rattle.reader.specs.Points.{lineIn, numberIn, pointOn, ClaimRows, PointRows}
 use Rattle.reader.specs.Read.{ReadAs, withPlace, noted, HoldsPoint, Scanned, ScannedSo}

@@ -5,13 +5,13 @@ use mathlib.Core.Path.{_≡_}
 use mathlib.Core.Bool.{true}
 use mathlib.Core.List.{List, [], _∷_, _++_}
 use lib.ListN.{length, getD}
-use Rattle.model.specs.Limits.{greatestPoints, greatestStripes}
+use Rattle.model.specs.Limits.{greatestPoints, greatestStripes, greatestLines}
 use Rattle.model.specs.Limited.{Limited, ClaimLimited}
 use Rattle.model.specs.Instructions.{targets, goesOn}
 use Rattle.model.specs.Listing.{Point, stripesAmong}
 use Rattle.decoded.specs.Rows.{rowAt}
 use Rattle.decoded.specs.Decoded.{instructionFrom, claimFrom, claimsFrom}
-use Rattle.reader.specs.Sizes.{greatestLines, placeNumbers}
+use Rattle.reader.specs.Sizes.{placeNumbers}
 
 -- the line in place p
 abbrev pub lineIn : List ℕ → ℕ → ℕ

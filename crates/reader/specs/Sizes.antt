@@ -1,10 +1,6 @@
 -- How many numbers hold what is kept of a listing.
-use Prim.Native.Nat.{ℕ, _+_, _*_, _/_}
-use Rattle.model.specs.Limits.{lineBytes, greatestListing, greatestPoints}
-
--- the lines of the longest listing
-abbrev pub greatestLines : ℕ
-greatestLines = greatestListing / lineBytes
+use Prim.Native.Nat.{ℕ, _+_, _*_}
+use Rattle.model.specs.Limits.{greatestPoints}
 
 -- the places, two numbers each: one for each point, and one for the point that is one too many
 abbrev pub placeNumbers : ℕ

@@ -9,10 +9,10 @@ use model::limits::GREATEST_POINTS;
 ghost use mathlib.Core.Path.{_≡_};
 ghost use Prim.Native.Nat.{_-_, _≤_, _<_};
 ghost use lib.ListN.{length};
-ghost use Rattle.model.specs.Limits.{greatestPoints};
+ghost use Rattle.model.specs.Limits.{greatestPoints, greatestLines};
 ghost use Rattle.decoded.specs.Rows.{rowAt};
 ghost use Rattle.reader.specs.Scan.{Within};
-ghost use Rattle.reader.specs.Sizes.{placeNumbers, greatestLines};
+ghost use Rattle.reader.specs.Sizes.{placeNumbers};
 ghost use Rattle.reader.specs.Points.{lineIn, numberIn, firstIn, Placed};
 ghost use Rattle.reader.specs.Read.{pointNoted, noted};
 

@@ -23,11 +23,11 @@ ghost use Prim.Native.Nat.{_*_, _≤_};
 ghost use lib.ListN.{length};
 ghost use Rattle.model.specs.declared.text.FoundWord.the-variants.{Known};
 ghost use Rattle.model.specs.declared.claims.Line.the-variants.{Refused as refusedLine};
-ghost use Rattle.model.specs.Limits.{lineBytes};
+ghost use Rattle.model.specs.Limits.{lineBytes, greatestLines};
 ghost use Rattle.model.specs.Lines.{judged, lineFrom, lineOr, lineFound, readLine};
 ghost use Rattle.model.specs.Listing.{readTo};
 ghost use Rattle.reader.specs.Scan.{progressOf, sortFrom};
-ghost use Rattle.reader.specs.Sizes.{greatestLines, placeNumbers};
+ghost use Rattle.reader.specs.Sizes.{placeNumbers};
 ghost use Rattle.reader.specs.Read.{ReadAs, ScannedSo};
 
 // What is read of a line: its row, and what the order of the lines depends on.

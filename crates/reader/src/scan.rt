@@ -4,9 +4,8 @@ use model::limits::GREATEST_STRIPES;
 ghost use mathlib.Core.Path.{_≡_};
 ghost use Prim.Native.Nat.{_≤_, _<_};
 ghost use mathlib.Core.List.{[]};
-ghost use Rattle.model.specs.Limits.{greatestStripes};
+ghost use Rattle.model.specs.Limits.{greatestStripes, greatestLines};
 ghost use Rattle.model.specs.Listing.{going};
-ghost use Rattle.reader.specs.Sizes.{greatestLines};
 ghost use Rattle.reader.specs.Scan.{order, noOrder, mayStand, stripesOf, inOrderAfter, afterClaim, afterScan, progressOf, Within};
 
 // What decides where a claim may stand: the rank of its word, LEAS 0, MOST 1 and STRP 2, and the variable of the first two.

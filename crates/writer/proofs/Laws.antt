@@ -5,7 +5,7 @@ use native.Mathlib.Decide.{decLt}
 use mathlib.Core.Path.{_≡_, refl, sym, ap, _∙_}
 use mathlib.Core.Bool.{Bool, true, false, cond, false≢true}
 use mathlib.Core.List.{List, _++_}
-use mathlib.Core.Logic.{_⊎_, inl, inr}
+use mathlib.Core.Logic.{inl, inr}
 use lib.ListN.{length, getD, take, drop, length-take, length-drop, length-append, List·getD-append}
 use lib.Seq.{take-at, drop-at, length-take-le, getD-take, getD-drop, getD-append-add, ext-getD}
 use lib.Dec.{eqb}
@@ -22,12 +22,12 @@ use Rattle.model.specs.declared.answers.Judgement.the-variants.{Accepted, Refus
 use Rattle.model.specs.Limits.{lineBytes}
 use Rattle.model.specs.Text.{lineEnd}
 use Rattle.model.specs.Answers.{isRefused, _andThen_}
-use Rattle.model.specs.Words.{textOf, words, begins, wordAmong, shaped, allowed}
+use Rattle.model.specs.Words.{words, begins, wordAmong, shaped, allowed}
 use Rattle.model.specs.Lists.{everyBelow}
 use Rattle.model.specs.Lines.{printable, wellSpelled, widthOf, fieldsIn, fieldAt, kindAt, F1, F5, inShape, inLimits, judged, lineFrom, lineOr, lineFound, readLine, lineSet}
 use Rattle.model.specs.Listing.{lineAt}
 use Rattle.model.specs.Writing.{wordOf, roomFor, lineJudged, withLine, listingIf, listingSet, isTaken, OutsideLine, ReadBack, WrittenIsRead, ReadIsWritten}
-use Rattle.model.proofs.Tests.{and-left, and-right, every-below}
+use Rattle.model.proofs.Tests.{and-right, every-below}
 use Rattle.model.proofs.Reading.{both-accepted}
 use Rattle.lines.proofs.AcceptedFields.{accepted}
 use Rattle.written_line.proofs.ColumnsRead.{Fits}

@@ -1,17 +1,17 @@
 -- A line that is set is well spelled: its word and its fields have printable bytes, and it ends. Assumes nothing.
-use Prim.Native.Nat.{ℕ, zero, suc, _+_, _*_, _-_, _/_, _%_, _<_, _≤_}
+use Prim.Native.Nat.{ℕ, zero, suc, _+_, _-_, _/_, _%_, _<_, _≤_}
 use native.Mathlib.Omega.{arith}
-use mathlib.Core.Path.{_≡_, refl, sym, _∙_}
-use mathlib.Core.Bool.{Bool, true, false, cond}
+use mathlib.Core.Path.{_≡_, refl}
+use mathlib.Core.Bool.{Bool, true, false}
 use mathlib.Core.List.{List}
 use lib.ListN.{getD, length}
-use lib.Dec.{leb, ltb, eqb}
+use lib.Dec.{leb}
 use borrow.Author.Tests.{leb-true, leb-false, le-leb, eq-eqb, ne-eqb}
 use Rattle.model.specs.Lists.{everyBelow}
 use Rattle.model.specs.declared.text.Field.{Field}
 use Rattle.model.specs.declared.text.Word.{Word}
 use Rattle.model.specs.declared.text.Word.the-variants.{Stop, Setc, Copy, Addw, Subw, Mulw, Divf, Load, Stor, Jump, Bltu, Bequ, Leas, Most, Strp}
-use Rattle.model.specs.Text.{lineEnd, fieldOf}
+use Rattle.model.specs.Text.{fieldOf}
 use Rattle.model.specs.Words.{textOf, begins}
 use Rattle.model.specs.Lines.{printable, wellSpelled, columnOf, widthOf, fieldAt, lineSet}
 use Rattle.model.proofs.Tests.{and-both, every-below, all-below}

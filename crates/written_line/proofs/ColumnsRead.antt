@@ -2,17 +2,17 @@
 use Prim.Native.Nat.{ℕ, zero, suc, _+_, _*_, _/_, _%_, _-_, _^_, _<_, _≤_}
 use native.Mathlib.Nat.{not-suc-le-zero, pow-suc}
 use native.Mathlib.Omega.{arith}
-use mathlib.Core.Path.{_≡_, refl, sym, _∙_, subst}
+use mathlib.Core.Path.{_≡_, refl, sym, subst}
 use mathlib.Core.Bool.{Bool, true, false, cond}
 use mathlib.Core.List.{List}
 use lib.ListN.{getD, set, length, length-set}
-use lib.Dec.{ltb, leb, eqb}
+use lib.Dec.{ltb, eqb}
 use borrow.Author.Tests.{ltb-true, ltb-false, eqb-true, eqb-false, le-leb, ne-eqb}
 use Rattle.model.specs.declared.text.Shape.{Shape}
 use Rattle.model.specs.declared.text.Shape.the-variants.{Spaces, Zero, Digits, Sign, Signed, Wrong}
 use Rattle.model.specs.declared.text.Field.{Field}
 use Rattle.model.specs.declared.text.Field.the-variants.{Blank, Number, Negative, Misshapen}
-use Rattle.model.specs.Text.{isDigit, digitOf, nextShape, shapeOf, digitsOf, fieldFrom, fieldOf, lastByte, shapeBefore, columnsSet, shapeFor, fieldSet}
+use Rattle.model.specs.Text.{isDigit, digitOf, nextShape, shapeOf, digitsOf, fieldFrom, fieldOf, lastByte, shapeBefore, columnsSet, fieldSet}
 use Rattle.model.proofs.Tests.{cond-cases}
 use Rattle.written_line.proofs.OtherColumns.{last-set}
 

@@ -1,20 +1,19 @@
 -- The word and the fields of a line that is set: each is read again, every line that is read is set again, and what stood there does not matter. Assumes nothing.
-use Prim.Native.Nat.{ℕ, zero, suc, _+_, _*_, _-_, _/_, _%_, _<_, _≤_}
+use Prim.Native.Nat.{ℕ, zero, suc, _+_, _-_, _<_, _≤_}
 use native.Mathlib.Nat.{not-suc-le-zero}
 use native.Mathlib.Omega.{arith}
 use native.Mathlib.Decide.{ℕ-discrete}
-use mathlib.Core.Path.{_≡_, refl, sym, _∙_, ap}
-use mathlib.Core.Bool.{Bool, true, false, _&&_, cond}
+use mathlib.Core.Path.{_≡_, refl, sym, _∙_}
+use mathlib.Core.Bool.{Bool, true, false, _&&_}
 use mathlib.Core.List.{List, [], _∷_}
 use lib.ListN.{getD, set, length, length-set}
 use lib.Seq.{getD-set-same, getD-set-other, set-getD, ext-getD}
 use lib.Dec.{leb, eqb}
 use borrow.Author.Tests.{eqb-true, leb-true, leb-false, eq-eqb, ne-eqb}
 use Rattle.model.specs.declared.text.Field.{Field}
-use Rattle.model.specs.declared.text.Field.the-variants.{Blank}
 use Rattle.model.specs.declared.text.Word.{Word}
-use Rattle.model.specs.Text.{lineEnd, fieldOf, fieldSet}
-use Rattle.model.specs.Words.{textOf, words, begins, wordAmong}
+use Rattle.model.specs.Text.{lineEnd, fieldOf}
+use Rattle.model.specs.Words.{textOf, begins, wordAmong}
 use Rattle.model.specs.Lines.{columnOf, widthOf, fieldsIn, fieldAt, wordSet, fieldsSet, lineSet}
 use Rattle.model.proofs.Tests.{and-left, and-right}
 use Rattle.columns.proofs.FieldColumns.{columns-fit}

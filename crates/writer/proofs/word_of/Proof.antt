@@ -2,7 +2,6 @@
 use Rattle.writer.proofs.LineJudged.{word-none, word-four}
 use native.Mathlib.Omega.{arith}
 use mathlib.Core.Path.{_∙_}
-use borrow.Author.Needs.{needs}
 use Rattle.writer.proofs.word_of.Statement.{statement}
 use Rattle.writer.proofs.word_of.Tie as tie
 

@@ -1,9 +1,8 @@
 -- Spaces are set one by one. Assumes nothing.
 use Prim.Native.Nat.{ℕ, _≤_, _<_, _-_}
 use native.Mathlib.Omega.{arith}
-use mathlib.Core.Path.{_≡_, refl}
+use mathlib.Core.Path.{_≡_}
 use lib.ListN.{length, length-set, getD}
-use borrow.Author.Needs.{needs}
 use Rattle.model.specs.Text.{space}
 use Rattle.written_line.specs.Cleared.{ClearedFrom}
 use Rattle.written_line.proofs.ClearedColumns.{space-more}

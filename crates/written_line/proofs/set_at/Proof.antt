@@ -2,7 +2,6 @@
 use Rattle.columns.proofs.FieldColumns.{columns-fit}
 use Rattle.written_line.proofs.ClearedColumns.{cleared-field, cleared-after}
 use native.Mathlib.Omega.{arith}
-use mathlib.Core.Path.{_∙_, ap}
 use borrow.Author.Needs.{needs}
 use Rattle.written_line.proofs.set_at.Statement.{statement}
 use Rattle.written_line.proofs.set_at.Tie as tie

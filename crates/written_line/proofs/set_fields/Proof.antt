@@ -1,7 +1,7 @@
 -- Each field is set in a line that is spaces from its first column on. Assumes nothing.
 use native.Mathlib.Omega.{arith}
 use mathlib.Core.Path.{_∙_}
-use Rattle.model.specs.Lines.{widthOf, fieldsSet}
+use Rattle.model.specs.Lines.{widthOf}
 use borrow.Author.Needs.{needs}
 use Rattle.written_line.proofs.set_fields.Statement.{statement}
 use Rattle.written_line.proofs.set_fields.Tie as tie

@@ -1,7 +1,6 @@
 -- A line that is cleared first becomes the line that the definition sets, whatever stood there. Assumes nothing.
 use Rattle.written_line.proofs.ClearedColumns.{cleared-word}
 use Rattle.written_line.proofs.LineFields.{line-made}
-use native.Mathlib.Omega.{arith}
 use mathlib.Core.Path.{_∙_}
 use lib.ListN.{length-set}
 use borrow.Author.Needs.{needs}

@@ -1,7 +1,6 @@
 -- The digits and then the minus; a minus on 0 is nothing that columns hold. Assumes nothing.
 use Rattle.written_line.proofs.ClearedColumns.{minus-on-zero, left-cleared, negative-set}
 use native.Mathlib.Omega.{arith}
-use mathlib.Core.Path.{sym}
 use borrow.Author.Needs.{needs}
 use Rattle.written_line.proofs.set_negative.Statement.{statement}
 use Rattle.written_line.proofs.set_negative.Tie as tie

@@ -2,8 +2,8 @@
 use mathlib.Core.Path.{_∙_, ap}
 use Rattle.output.specs.Arrays.{judgedAnswer}
 use borrow.Author.Needs.{needs}
-use Rattle.exports.proofs.rithwellu_set_line.Statement.{statement}
-use Rattle.exports.proofs.rithwellu_set_line.Tie as tie
+use Rattle.writer_exports.proofs.rithwellu_set_line.Statement.{statement}
+use Rattle.writer_exports.proofs.rithwellu_set_line.Tie as tie
 
 returns : tie.Need-returns
 returns c =
