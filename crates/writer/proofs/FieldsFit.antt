@@ -18,8 +18,7 @@ use Rattle.model.specs.declared.text.Kind.the-variants.{Empty, Plain, Optional,
 use Rattle.model.specs.Words.{fieldsOf, shaped, within, allowed}
 use Rattle.model.specs.Lines.{widthOf, kindAt}
 use Rattle.model.proofs.Tests.{or-cases, and-left, and-right, cond-cases, every-below}
-use Rattle.written_line.proofs.ColumnsRead.{Fits}
-use Rattle.written_line.proofs.ColumnsSetAgain.{Taken}
+use Rattle.written_line.specs.Columns.{Fits, Taken}
 
 -- the greatest number of a content, whatever the other fields hold
 abbrev greatest : Content → ℕ

@@ -29,8 +29,8 @@ use Rattle.model.specs.Listing.{lineAt}
 use Rattle.model.specs.Writing.{wordOf, roomFor, lineJudged, withLine, listingIf, listingSet, isTaken, OutsideLine, ReadBack, WrittenIsRead, ReadIsWritten}
 use Rattle.model.proofs.Tests.{and-right, every-below}
 use Rattle.model.proofs.Reading.{both-accepted}
+use Rattle.written_line.specs.Columns.{Fits}
 use Rattle.lines.proofs.AcceptedFields.{accepted}
-use Rattle.written_line.proofs.ColumnsRead.{Fits}
 use Rattle.writer.proofs.LineJudged.{word-four, found, room-bounds}
 use Rattle.writer.proofs.FieldsFit.{accepted-fits, fits-taken}
 use Rattle.written_line.proofs.LineFields.{begins-with, word-same, length-line, line-word, line-fields, line-again, line-alike}

@@ -15,8 +15,8 @@ use Rattle.model.specs.Text.{fieldOf}
 use Rattle.model.specs.Words.{textOf, begins}
 use Rattle.model.specs.Lines.{printable, wellSpelled, columnOf, widthOf, fieldAt, lineSet}
 use Rattle.model.proofs.Tests.{and-both, every-below, all-below}
-use Rattle.written_line.proofs.ColumnsRead.{Fits}
-use Rattle.written_line.proofs.ColumnsSetAgain.{Taken, field-printable}
+use Rattle.written_line.specs.Columns.{Fits, Taken}
+use Rattle.written_line.proofs.ColumnsSetAgain.{field-printable}
 use Rattle.writer.proofs.FieldsFit.{fits-taken}
 use Rattle.written_line.proofs.LineFields.{bytes-of-word, line-end, line-word, line-field}
 

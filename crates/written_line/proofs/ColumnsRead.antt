@@ -14,6 +14,7 @@ use Rattle.model.specs.declared.text.Field.{Field}
 use Rattle.model.specs.declared.text.Field.the-variants.{Blank, Number, Negative, Misshapen}
 use Rattle.model.specs.Text.{isDigit, digitOf, nextShape, shapeOf, digitsOf, fieldFrom, fieldOf, lastByte, shapeBefore, columnsSet, fieldSet}
 use Rattle.model.proofs.Tests.{cond-cases}
+use Rattle.written_line.specs.Columns.{Fits, FieldIsRead}
 use Rattle.written_line.proofs.OtherColumns.{last-set}
 
 -- the numbers that a shape stands with
@@ -108,15 +109,8 @@ signed-fits (suc n) v p h =
 minus-fits : (n v : ℕ) → 1 < n → v < 10 ^ (n - 1) → leftOver n Signed v ≡ Spaces
 minus-fits n v p h = let e : suc (n - 1) ≡ n = omega arith in subst (λ m. leftOver m Signed v ≡ Spaces) e (signed-fits (n - 1) v (omega arith) h)
 
--- a field that n columns have room for
-unfoldable pub Fits : ℕ → Field → Type 0
-Fits n Blank = Unit {0}
-Fits n (Number v) = (0 < n) × (v < 10 ^ n)
-Fits n (Negative v) = (1 < n) × (0 < v) × (v < 10 ^ (n - 1))
-Fits n Misshapen = ⊥
-
--- the law: it is read as it was written
-pub field-read : (s : List ℕ) (at n : ℕ) (f : Field) → at + n ≤ length s → Fits n f → fieldOf (fieldSet s at n f) at n ≡ f
+-- the law
+pub field-read : FieldIsRead
 unfolding Fits fieldOf fieldSet
 field-read s at n Blank fit h = let p = columns-read s at n Spaces 0 fit refl (spaces-fit n 0) in rw (p .0)
 field-read s at n (Number v) fit h = go (eqb v 0) refl

@@ -16,6 +16,7 @@ use Rattle.model.specs.declared.text.Field.{Field}
 use Rattle.model.specs.declared.text.Field.the-variants.{Blank, Number, Negative, Misshapen}
 use Rattle.model.specs.Text.{isDigit, digitOf, nextShape, shapeOf, digitsOf, fieldFrom, fieldOf, valueIn, lastByte, shapeBefore, columnsSet, shapeFor, fieldSet}
 use Rattle.model.proofs.Tests.{cond-cases}
+use Rattle.written_line.specs.Columns.{Taken, FieldIsSet}
 use Rattle.columns.proofs.Digits.{digit-byte, digit-below}
 use Rattle.written_line.proofs.ColumnsRead.{Holds}
 
@@ -126,13 +127,6 @@ module _ (s : List ℕ) (at : ℕ) where
       go (no q) l u f = f (omega arith)
 
 -- ---- fields
--- columns that hold a field
-abbrev pub Taken : Field → Type 0
-Taken Blank = Unit {0}
-Taken (Number v) = Unit {0}
-Taken (Negative v) = Unit {0}
-Taken Misshapen = ⊥
-
 right-field : (g : Shape) (v : ℕ) → Taken (fieldFrom g v) → Right g
 right-field Spaces v r = tt
 right-field Zero v r = tt
@@ -141,19 +135,19 @@ right-field Sign v r = tt
 right-field Signed v r = tt
 right-field Wrong v r = r
 
-module _ (s : List ℕ) (at n : ℕ) (r : Taken (fieldOf s at n)) where
-  pub field-set : fieldSet s at n (fieldOf s at n) ≡ s
-  unfolding fieldOf fieldSet
-  field-set = go (shapeOf s at n) (digitsOf s at n) r (columns-set s at n)
-    where
-      go : (g : Shape) (v : ℕ) → Taken (fieldFrom g v) → (Right g → Holds g v × (columnsSet s at n g v ≡ s)) → columnsSet s at n (shapeFor (fieldFrom g v)) (valueIn (fieldFrom g v)) ≡ s
-      go Spaces v r k = let p = k tt in rw (p .0) at (p .1)
-      go Zero v r k = let p = k tt in rw (eq-eqb v 0 (p .0)) (p .1)
-      go Digits v r k = let p = k tt in rw (ne-eqb v 0 (λ e. omega (arith, p .0))) (p .1)
-      go Sign v r k = absurd r
-      go Signed v r k = let p = k tt in rw (ne-eqb v 0 (λ e. omega (arith, p .0))) (p .1)
-      go Wrong v r k = absurd r
+-- the law
+pub field-set : FieldIsSet
+unfolding fieldOf fieldSet
+field-set s at n r = go (shapeOf s at n) (digitsOf s at n) r (columns-set s at n)
+  where
+    go : (g : Shape) (v : ℕ) → Taken (fieldFrom g v) → (Right g → Holds g v × (columnsSet s at n g v ≡ s)) → columnsSet s at n (shapeFor (fieldFrom g v)) (valueIn (fieldFrom g v)) ≡ s
+    go Spaces v r k = let p = k tt in rw (p .0) at (p .1)
+    go Zero v r k = let p = k tt in rw (eq-eqb v 0 (p .0)) (p .1)
+    go Digits v r k = let p = k tt in rw (ne-eqb v 0 (λ e. omega (arith, p .0))) (p .1)
+    go Sign v r k = absurd r
+    go Signed v r k = let p = k tt in rw (ne-eqb v 0 (λ e. omega (arith, p .0))) (p .1)
+    go Wrong v r k = absurd r
 
-  pub field-printable : (i : ℕ) → i < n → (32 ≤ getD s (at + i) 0) × (getD s (at + i) 0 ≤ 57)
-  unfolding fieldOf
-  field-printable = columns-printable s at n (right-field (shapeOf s at n) (digitsOf s at n) r)
+pub field-printable : (s : List ℕ) (at n : ℕ) → Taken (fieldOf s at n) → (i : ℕ) → i < n → (32 ≤ getD s (at + i) 0) × (getD s (at + i) 0 ≤ 57)
+unfolding fieldOf
+field-printable s at n r = columns-printable s at n (right-field (shapeOf s at n) (digitsOf s at n) r)

@@ -16,10 +16,11 @@ use Rattle.model.specs.Text.{lineEnd, fieldOf}
 use Rattle.model.specs.Words.{textOf, begins, wordAmong}
 use Rattle.model.specs.Lines.{columnOf, widthOf, fieldsIn, fieldAt, wordSet, fieldsSet, lineSet}
 use Rattle.model.proofs.Tests.{and-left, and-right}
+use Rattle.written_line.specs.Columns.{Fits, Taken}
 use Rattle.columns.proofs.FieldColumns.{columns-fit}
 use Rattle.written_line.proofs.OtherColumns.{length-field, field-kept, field-alike}
-use Rattle.written_line.proofs.ColumnsRead.{Fits, field-read, field-same}
-use Rattle.written_line.proofs.ColumnsSetAgain.{Taken, field-set}
+use Rattle.written_line.proofs.ColumnsRead.{field-read, field-same}
+use Rattle.written_line.proofs.ColumnsSetAgain.{field-set}
 
 -- all but the last field have four columns
 width-before : (j n : ℕ) → j < n → n < 6 → widthOf j ≡ 4

@@ -1,4 +1,4 @@
-//! The proved checker, claim lines, setter and runner, as their static library offers them to C. Any bytes, sizes and
+//! The proved checker, claim lines, setter and runner, as the static libraries offer them to C. Any bytes, sizes and
 //! states may be passed.
 
 /// Number 0 and the points for a listing that passes, else the number of the refusal and its places.
