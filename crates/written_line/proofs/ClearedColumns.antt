@@ -33,15 +33,17 @@ unfolding columnsSet
 no-column s at i f g u v e = rw e
 
 -- ---- spaces that stay
-spaces-stay : (s : List ℕ) (at n v : ℕ) → Cleared s at n → columnsSet s at n Spaces v ≡ s
+-- a shape that is written as spaces alone
+shape-stays : (f : Shape) → ((u : ℕ) → lastByte f u ≡ space) → ((u : ℕ) → shapeBefore f u ≡ f) → (s : List ℕ) (at n v : ℕ) → Cleared s at n → columnsSet s at n f v ≡ s
 unfolding Cleared columnsSet
-spaces-stay s at zero v c = refl
-spaces-stay s at (suc n) v c = rw (← c n (omega arith), set-getD s (at + n) 0) (spaces-stay s at n (v / 10) (λ i h. c i (omega arith)))
+shape-stays f last before s at zero v c = refl
+shape-stays f last before s at (suc n) v c = rw (last v, before v, ← c n (omega arith), set-getD s (at + n) 0) (shape-stays f last before s at n (v / 10) (λ i h. c i (omega arith)))
+
+spaces-stay : (s : List ℕ) (at n v : ℕ) → Cleared s at n → columnsSet s at n Spaces v ≡ s
+spaces-stay = shape-stays Spaces (λ u. refl) (λ u. refl)
 
 wrong-stays : (s : List ℕ) (at n v : ℕ) → Cleared s at n → columnsSet s at n Wrong v ≡ s
-unfolding Cleared columnsSet
-wrong-stays s at zero v c = refl
-wrong-stays s at (suc n) v c = rw (← c n (omega arith), set-getD s (at + n) 0) (wrong-stays s at n (v / 10) (λ i h. c i (omega arith)))
+wrong-stays = shape-stays Wrong (λ u. refl) (λ u. refl)
 
 -- a space more
 pub space-more : (s : List ℕ) (i : ℕ) → i < length s → ((j : ℕ) → j < i → getD s j 0 ≡ space) → (j : ℕ) → j < i + 1 → getD (set s i space) j 0 ≡ space
