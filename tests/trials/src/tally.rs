@@ -1,41 +1,72 @@
 //! How often each answer came up.
 
 use reference::Answer;
+use std::marker::PhantomData;
 
-const ANSWERS: usize = 15;
-/// Each answer must come up at least once in this many listings.
+/// Each answer must come up at least once in this many calls.
 const RAREST: u64 = 1000;
 
-#[derive(Clone, Debug, Default)]
-pub struct Tally {
-    counts: [u64; ANSWERS],
+/// The answers that are counted.
+pub trait Answers {
+    const NAMES: &'static [&'static str];
 }
 
-impl Tally {
-    pub fn count(&mut self, answer: &Answer) {
-        self.counts[answer.number as usize] += 1;
+/// A count for each answer.
+#[derive(Clone, Debug)]
+pub struct Counts<A> {
+    counts: Vec<u64>,
+    answers: PhantomData<A>,
+}
+
+impl<A: Answers> Default for Counts<A> {
+    fn default() -> Counts<A> {
+        Counts { counts: vec![0; A::NAMES.len()], answers: PhantomData }
+    }
+}
+
+impl<A: Answers> Counts<A> {
+    pub(crate) fn count_at(&mut self, answer: usize) {
+        self.counts[answer] += 1;
     }
 
-    pub fn add(&mut self, other: &Tally) {
-        self.counts.iter_mut().zip(other.counts).for_each(|(count, more)| *count += more);
+    pub fn add(&mut self, other: &Counts<A>) {
+        self.counts.iter_mut().zip(&other.counts).for_each(|(count, more)| *count += more);
     }
 
     pub fn total(&self) -> u64 {
         self.counts.iter().sum()
     }
 
-    /// The answers that came up too seldom; 0 is a listing that passes.
-    pub fn rare(&self) -> Vec<usize> {
-        (0..ANSWERS).filter(|&number| self.counts[number] * RAREST < self.total()).collect()
+    /// The answers that came up too seldom.
+    pub fn rare(&self) -> Vec<&'static str> {
+        let total = self.total();
+        let seldom = |(_, count): &(&&str, &u64)| **count * RAREST < total;
+        A::NAMES.iter().zip(&self.counts).filter(seldom).map(|(name, _)| *name).collect()
     }
 
     /// The names of the answers, in the columns of `row`.
     pub fn heading() -> String {
-        let name = |number| if number == 0 { "PASS".to_string() } else { format!("{number}") };
-        (0..ANSWERS).map(|number| format!("{:>7}", name(number))).collect()
+        A::NAMES.iter().map(|name| format!("{name:>8}")).collect()
     }
 
     pub fn row(&self) -> String {
-        self.counts.iter().map(|count| format!("{count:>7}")).collect()
+        self.counts.iter().map(|count| format!("{count:>8}")).collect()
+    }
+}
+
+/// A listing that passes, and the refusals 1 to 14.
+#[derive(Clone, Debug)]
+pub struct CheckerAnswers;
+
+impl Answers for CheckerAnswers {
+    const NAMES: &'static [&'static str] =
+        &["PASS", "1", "2", "3", "4", "5", "6", "7", "8", "9", "10", "11", "12", "13", "14"];
+}
+
+pub type Tally = Counts<CheckerAnswers>;
+
+impl Tally {
+    pub fn count(&mut self, answer: &Answer) {
+        self.count_at(answer.number as usize);
     }
 }

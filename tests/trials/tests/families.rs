@@ -21,7 +21,7 @@ fn every_answer_comes_up_often_enough() {
     }
     println!("{} all {} listings", whole.row(), whole.total());
     assert!(whole.total() * SHARE >= 200_000, "{} listings", whole.total());
-    assert_eq!(whole.rare(), Vec::<usize>::new());
+    assert_eq!(whole.rare(), Vec::<&str>::new());
 }
 
 #[test]
