@@ -38,7 +38,7 @@ enum { RITHWELLU_BLANK = 0, RITHWELLU_NUMBER = 1, RITHWELLU_NEGATIVE = 2 };
    answer[0] the number of the refusal, 3, 4, 5 or 18 in this order, or 0 where the line was set;
    answer[1] for 3, 4 and 5 the line as given, else 0.
    Every other byte stays, and a call that is turned back changes none. The listing may have any length; line is from
-   1 to 1,638 and ends within the listing, or it is 18. Word, kinds, numbers and listing must not overlap. */
+   1 to 1,638 and ends within the listing, or it is 18. The listing must not overlap what else is lent. */
 void rithwellu_set_line(const uint8_t *word, size_t word_len, const uint8_t kinds[6], const uint64_t numbers[6],
                         size_t line, uint8_t *listing, size_t len, uint64_t answer[2]);
 

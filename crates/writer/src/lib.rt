@@ -15,6 +15,7 @@ ghost use mathlib.Core.Path.{_≡_};
 ghost use Prim.Native.Nat.{_+_, _*_, _-_, _≤_};
 ghost use lib.ListN.{length};
 ghost use Rattle.model.specs.declared.text.FoundWord.the-variants.{Known};
+ghost use Rattle.model.specs.Limits.{lineBytes};
 ghost use Rattle.model.specs.Answers.{_andThen_};
 ghost use Rattle.model.specs.Words.{textOf};
 ghost use Rattle.model.specs.Lines.{judged};
@@ -44,7 +45,7 @@ fn room_for(n: usize, size: usize) -> Judgement
 
 // Writes line k, counted from 0, from the bytes of the word that the reader compares with.
 pub fn write_line(s: &mut [u8], k: usize, w: Word, fs: [Field; 6])
-    requires { ⌜ k * 40 + 40 ≤ length (now s) ⌝ }
+    requires { ⌜ k * lineBytes + lineBytes ≤ length (now s) ⌝ }
     ensures { λ _. ⌜ now (s .exit) ≡ withLine (now (s .entry)) k (textOf w) fs ⌝ }
 {
     let a = k * LINE_BYTES;

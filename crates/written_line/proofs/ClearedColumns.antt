@@ -27,7 +27,7 @@ unfolding columnsSet
 columns-step s at zero f v h = absurd (not-suc-le-zero h)
 columns-step s at (suc i) f v h = simp unary-clauses
 
--- columns without a column
+-- where no column is left, nothing is set
 pub no-column : (s : List ℕ) (at i : ℕ) (f g : Shape) (u v : ℕ) → i ≡ 0 → columnsSet s at 0 f u ≡ columnsSet s at i g v
 unfolding columnsSet
 no-column s at i f g u v e = rw e
