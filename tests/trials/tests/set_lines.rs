@@ -48,10 +48,11 @@ fn every_word_is_set() {
     assert!(set.values().all(|&times| times >= 500), "{set:?}");
 }
 
+/// A share, since `compare` tries the proved setter on all of them.
 #[test]
 fn lines_that_are_read_come_back() {
     for family in all() {
-        if let Err(difference) = lines_come_back(&family.thinned(SHARE), &set_by_reference) {
+        if let Err(difference) = lines_come_back(&family.thinned(10 * SHARE), &set_by_reference) {
             panic!("first is what is due: {difference}");
         }
     }
