@@ -2,7 +2,7 @@
 use mathlib.Core.Path.{_≡_, refl, ap, sym, subst, _∙_}
 use mathlib.Core.Bool.{cond}
 use mathlib.Core.List.{List}
-use Prim.Native.Nat.{ℕ, _+_, _*_, _-_, _/_, _^_, _≤_, _<_, min, max}
+use Prim.Native.Nat.{ℕ, _+_, _*_, _-_, _^_, _≤_, _<_, min, max}
 use native.Mathlib.Nat.{le-max-right}
 use native.Mathlib.Decide.{ℕ-discrete, decLt}
 use native.Mathlib.Omega.{arith}
@@ -23,9 +23,9 @@ use Rattle.model.specs.declared.claims.Stripe.{Stripe}
 use Rattle.model.specs.Limits.{MAX}
 use Rattle.model.specs.Facts.{between, exactly, registerRange, rangeOf, hi}
 use Rattle.model.specs.Machine.{bytesOf}
-use Rattle.model.specs.Transfer.{nothing, operandRange, sumFits, sumRange, differenceFits, differenceRange, productFits, productRange, quotientRange, below, atLeast, atMost, overlap, without, hasOneValue, changed, operandChanged, rangesAlong, stripesAlong}
+use Rattle.model.specs.Transfer.{nothing, operandRange, sumFits, sumRange, differenceFits, differenceRange, productFits, productRange, nearestRange, below, atLeast, atMost, overlap, without, hasOneValue, changed, operandChanged, rangesAlong, stripesAlong}
 use Rattle.model.proofs.Tests.{cond-cases}
-use Rattle.model.proofs.Values.{div-small}
+use Rattle.model.proofs.Values.{nearest-small}
 use Rattle.model.specs.Limited.{Limited}
 use Rattle.facts.specs.Known.{High}
 use Rattle.edge_ranges.specs.Branches.{orderedRanges, matchedRanges, orderedStripes, matchedStripes}
@@ -77,10 +77,10 @@ module _ (r q : Range) (h : Top r) where
   product-top : Top (cond (productFits r q) (productRange r q) registerRange)
   product-top = cond-cases Top (productFits r q) (productRange r q) registerRange (λ e. leb-true (r .hi * q .hi) MAX e) (λ e. omega arith)
 
-  quotient-top : Top (quotientRange r q)
-  quotient-top =
-      cond-cases Top (eqb (q .hi) 0) nothing (between (r .lo / q .hi) (r .hi / max (q .lo) 1)) (λ e. omega arith)
-      (λ e. div-small (r .hi) (max (q .lo) 1) MAX (le-max-right (q .lo) 1) h)
+  nearest-top : Top (nearestRange r q)
+  nearest-top =
+      cond-cases Top (eqb (q .hi) 0) nothing _ (λ e. omega arith)
+      (λ e. nearest-small (r .hi) (max (q .lo) 1) MAX (le-max-right (q .lo) 1) h)
 
 loaded-top : (w : Width) → 256 ^ bytesOf w - 1 ≤ MAX
 loaded-top One = omega arith
@@ -108,7 +108,7 @@ along-high e (Copy d i) rs t h = high-set rs d _ h (h i)
 along-high e (Addw d i o) rs t h = high-set rs d _ h (sum-top (rangeOf rs i) (operandRange rs o) (h i))
 along-high e (Subw d i o) rs t h = high-set rs d _ h (difference-top (rangeOf rs i) (operandRange rs o) (h i))
 along-high e (Mulw d i o) rs t h = high-set rs d _ h (product-top (rangeOf rs i) (operandRange rs o) (h i))
-along-high e (Divf d i o) rs t h = high-set rs d _ h (quotient-top (rangeOf rs i) (operandRange rs o) (h i))
+along-high e (Divf d i o) rs t h = high-set rs d _ h (nearest-top (rangeOf rs i) (operandRange rs o) (h i))
 along-high e (Load d w b a i k) rs t h = high-set rs d _ h (loaded-top w)
 along-high e (Stor v w a i k) rs t h = h
 along-high e (Jump t) rs l h = h

@@ -6,6 +6,7 @@ use model::machine::Edge;
 use model::machine::Instruction;
 use model::machine::Operand;
 use model::machine::Width;
+use operations::arithmetic::nearest_quotient;
 ghost use mathlib.Core.Path.{_≡_};
 ghost use mathlib.Core.Bool.{cond};
 ghost use Prim.Native.Nat.{_+_, _-_, _^_, _<_, _≤_, min, max};
@@ -17,7 +18,7 @@ ghost use Rattle.model.specs.declared.claims.Range.{Range};
 ghost use Rattle.model.specs.Facts.{between, registerRange, rangeOf};
 ghost use Rattle.model.specs.Machine.{bytesOf};
 ghost use Rattle.model.specs.Transfer as Model;
-ghost use Rattle.model.specs.Transfer.{operandRange, operandChanged, sumFits, sumRange, differenceFits, differenceRange, productFits, productRange, quotientRange, atLeast, atMost, lessRanges, notLessRanges, equalRanges, unequalRanges, rangesAlong};
+ghost use Rattle.model.specs.Transfer.{operandRange, operandChanged, sumFits, sumRange, differenceFits, differenceRange, productFits, productRange, nearestRange, atLeast, atMost, lessRanges, notLessRanges, equalRanges, unequalRanges, rangesAlong};
 ghost use Rattle.model.specs.Limited.{OperandLimited, Limited};
 ghost use Rattle.facts.specs.Known.{rangesOf, Word, Ends};
 ghost use Rattle.edge_ranges.specs.Changes.{Makes};
@@ -159,15 +160,18 @@ fn product(p: Pair) -> Range
     }
 }
 
-// The range of a quotient; nothing where the divisor is 0.
-fn quotient(p: Pair) -> Range
-    ensures { λ s. ⌜ s ≡ quotientRange (p .r) (p .q) ⌝ }
+// The range of a nearest quotient; nothing where the divisor is 0.
+fn nearest_range(p: Pair) -> Range
+    requires { ⌜ Word (p .r) × Word (p .q) ⌝ }
+    ensures { λ s. ⌜ s ≡ nearestRange (p .r) (p .q) ⌝ }
 {
     if p.q.hi == 0 {
         return Range::nothing();
     }
     let least = larger(p.q.lo, 1);
-    Range::between(p.r.lo / p.q.hi, p.r.hi / least)
+    let lo = nearest_quotient(p.r.lo, p.q.hi);
+    let hi = nearest_quotient(p.r.hi, least);
+    Range::between(lo, hi)
 }
 
 // The values of so many bytes.
@@ -375,7 +379,7 @@ pub fn changes_along<'a>(
         Instruction::Addw { d, i, o } => one(d, sum(ranges_at(low, high, i, o))),
         Instruction::Subw { d, i, o } => one(d, difference(ranges_at(low, high, i, o))),
         Instruction::Mulw { d, i, o } => one(d, product(ranges_at(low, high, i, o))),
-        Instruction::Divf { d, i, o } => one(d, quotient(ranges_at(low, high, i, o))),
+        Instruction::Divf { d, i, o } => one(d, nearest_range(ranges_at(low, high, i, o))),
         Instruction::Load {
             d,
             w,

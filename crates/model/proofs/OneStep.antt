@@ -7,7 +7,7 @@ use native.Mathlib.Nat.{add-zero, mul-le-mul-left}
 use native.Mathlib.Omega.{arith}
 use native.Mathlib.Decide.{ℕ-discrete}
 use lib.ListN.{length, getD, set, length-set, length-append}
-use lib.Seq.{getD-set-same, getD-set-other, set-append-left, getD-at, getD-append-add}
+use lib.Seq.{getD-set-same, getD-set-other, set-append-left, getD-append-add}
 use lib.Dec.{ltb, leb, eqb}
 use borrow.Author.Tests.{ltb-true, ltb-false, leb-true, leb-false, eqb-true, eqb-false}
 use Rattle.model.specs.Types.{Width, One, Two, Four, Table, Trays, Results, Operand, Instruction, Stop, Setc, Copy, Addw, Subw, Mulw, Divf, Load, Stor, Jump, Bltu, Bequ, Edge, Next, Target, Claim, Accepted, refused, NoSuchTarget, DivisorMayBeZero, AccessMayLeave, ClaimMayFail}
@@ -15,7 +15,7 @@ use Rattle.model.specs.Limits.{registers, variables, blankVariable, MAX,
 use Rattle.model.specs.Facts.{Facts, lo, hi, factsOf, valueAt}
 use Rattle.model.specs.Instructions.{targets, goesOn}
 use Rattle.model.specs.Listing.{Point, firstLine, pointAt, targetsExist}
-use Rattle.model.specs.Machine.{Tables, lent, tableOf, tableNumber, sizesOf, sizeVariable, Config, valuesFrom, values, valueOf, operandValue, bytesOf, readBytes, writeBytes, sum, difference, product, quotient, address, wrote, went, stored, Step, next, stopped, errorState, inside, stepOf}
+use Rattle.model.specs.Machine.{Tables, lent, tableOf, tableNumber, sizesOf, sizeVariable, Config, valuesFrom, values, valueOf, operandValue, bytesOf, readBytes, writeBytes, sum, difference, product, nearestQuotient, address, wrote, went, stored, Step, next, stopped, errorState, inside, stepOf}
 use Rattle.model.specs.Transfer.{stripe, factsAlong}
 use Rattle.model.specs.Follows.{lostAlong}
 use Rattle.model.specs.Check.{divisorSafe, accessSafe, safetyJudged, claimsJudged, pointJudged}
@@ -26,7 +26,7 @@ use Rattle.model.proofs.Meaning.{Holds, Met}
 use Rattle.model.proofs.Follows.{follows-holds, none-lost-along}
 use Rattle.model.proofs.Facts.{facts-long, Bounded, top, top-register, blank-value, small-value, met-facts}
 use Rattle.model.proofs.Ranges.{OnlyAt}
-use Rattle.model.proofs.Values.{div-small, read-below, write-long, write-byte}
+use Rattle.model.proofs.Values.{nearest-small, read-below, write-long, write-byte}
 use Rattle.model.proofs.Transfer.{in-operand, setc-met, copy-met, addw-met, subw-met, mulw-met, divf-met, load-met, less-met, not-less-met, equal-met, unequal-met}
 use Rattle.model.specs.Limited.{Limited}
 use Rattle.model.proofs.Reading.{both-accepted, test-passed, PointLimited}
@@ -144,10 +144,10 @@ module _ (ps : List Point) (limited : All PointLimited ps) (sizes : List ℕ) wh
         → claimsJudged l (factsAlong Next (Divf d i o) (factsOf cs)) (pointAt ps (c .point + 1)) ≡ Accepted → StepGood ps sizes (c .tables .trays) (stepOf (Divf d i o) c)
     unfolding stepOf
     divf-good d i o in-d on safe e =
-        let x = quotient (valueOf c i) (operandValue c o) in
+        let x = nearestQuotient (valueOf c i) (operandValue c o) in
         let r = in-operand (values c) (factsOf cs) h o in
         let pos : 0 < operandValue c o = omega (arith, leb-true) in
-        let small : x ≤ MAX = div-small (valueOf c i) (operandValue c o) MAX pos (small-value (valueOf c) (t .bounded) i) in
+        let small : x ≤ MAX = nearest-small (valueOf c i) (operandValue c o) MAX pos (small-value (valueOf c) (t .bounded) i) in
         cond-cases (StepGood ps sizes (c .tables .trays)) (eqb (operandValue c o) 0) errorState (next (wrote c d x))
         (λ z. omega (arith, eqb-true))
         (λ z.

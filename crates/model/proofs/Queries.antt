@@ -10,7 +10,7 @@ use borrow.Author.Tests.{eqb-false, eq-eqb}
 use Rattle.model.specs.Types.{Width, Instruction, Stop, Setc, Copy, Addw, Subw, Mulw, Divf, Load, Stor, Jump, Bltu, Bequ}
 use Rattle.model.specs.Lists.{some}
 use Rattle.model.specs.Instructions.{writes, targets, goesOn}
-use Rattle.model.specs.Machine.{Config, valueOf, operandValue, bytesOf, tableOf, readBytes, writeBytes, quotient, address, wrote, stored, Step, next, stopped, errorState, inside, stepOf}
+use Rattle.model.specs.Machine.{Config, valueOf, operandValue, bytesOf, tableOf, readBytes, writeBytes, address, wrote, stored, Step, next, stopped, errorState, inside, stepOf}
 use Rattle.model.proofs.Tests.{cond-cases, or-false, or-true}
 
 -- the variable is one of the list
@@ -40,7 +40,7 @@ unwritten-kept (Addw d i o) c = λ r e. wrote-leaves c d _ r e
 unwritten-kept (Subw d i o) c = λ r e. wrote-leaves c d _ r e
 unwritten-kept (Mulw d i o) c = λ r e. wrote-leaves c d _ r e
 unwritten-kept (Divf d i o) c =
-    cond-cases (Leaves (Divf d i o) c) (eqb (operandValue c o) 0) errorState (next (wrote c d (quotient (valueOf c i) (operandValue c o)))) (λ z. tt) (λ z r e. wrote-leaves c d _ r e)
+    cond-cases (Leaves (Divf d i o) c) (eqb (operandValue c o) 0) errorState _ (λ z. tt) (λ z r e. wrote-leaves c d _ r e)
 unwritten-kept (Load d w b a i k) c =
     inside-leaves (Load d w b a i k) (address a (valueOf c i) k) w (tableOf b (c .tables)) c (wrote c d (readBytes (bytesOf w) (tableOf b (c .tables)) (address a (valueOf c i) k))) (λ r e. wrote-leaves c d _ r e)
 unwritten-kept (Stor v w a i k) c =
@@ -79,7 +79,7 @@ leads (Addw d i o) c = same-point (c .point + 1)
 leads (Subw d i o) c = same-point (c .point + 1)
 leads (Mulw d i o) c = same-point (c .point + 1)
 leads (Divf d i o) c =
-    cond-cases (Leads (Divf d i o) c) (eqb (operandValue c o) 0) errorState (next (wrote c d (quotient (valueOf c i) (operandValue c o)))) (λ z. tt) (λ z. same-point (c .point + 1))
+    cond-cases (Leads (Divf d i o) c) (eqb (operandValue c o) 0) errorState _ (λ z. tt) (λ z. same-point (c .point + 1))
 leads (Load d w b a i k) c =
     inside-leads (Load d w b a i k) (address a (valueOf c i) k) w (tableOf b (c .tables)) c (wrote c d (readBytes (bytesOf w) (tableOf b (c .tables)) (address a (valueOf c i) k))) (same-point (c .point + 1))
 leads (Stor v w a i k) c =

@@ -11,7 +11,7 @@ use lib.ListN.{length}
 use lib.Dec.{eqb, leb}
 use Rattle.model.specs.Types.{Width, Instruction, Stop, Setc, Copy, Addw, Subw, Mulw, Divf, Load, Stor, Jump, Bltu, Bequ}
 use Rattle.model.specs.Listing.{Point}
-use Rattle.model.specs.Machine.{Config, valueOf, operandValue, bytesOf, tableOf, readBytes, writeBytes, quotient, address, wrote, stored, inside, instructionAt, Step, next, stopped, errorState, stepOf, stepAt, at, settled, onward, steps}
+use Rattle.model.specs.Machine.{Config, valueOf, operandValue, bytesOf, tableOf, readBytes, writeBytes, address, wrote, stored, inside, instructionAt, Step, next, stopped, errorState, stepOf, stepAt, at, settled, onward, steps}
 use Rattle.model.specs.Instructions.{isStop}
 use Rattle.model.specs.Run.{Progress, advanced, runFor, atStop}
 use Rattle.model.proofs.Tests.{cond-cases}
@@ -36,7 +36,7 @@ made (Addw d i o) c = refl
 made (Subw d i o) c = refl
 made (Mulw d i o) c = refl
 made (Divf d i o) c =
-    cond-cases (Made (Divf d i o)) (eqb (operandValue c o) 0) errorState (next (wrote c d (quotient (valueOf c i) (operandValue c o)))) (λ z. tt) (λ z. refl)
+    cond-cases (Made (Divf d i o)) (eqb (operandValue c o) 0) errorState _ (λ z. tt) (λ z. refl)
 made (Load d w b a i k) c =
     made-inside (Load d w b a i k) (address a (valueOf c i) k) w (tableOf b (c .tables)) (wrote c d (readBytes (bytesOf w) (tableOf b (c .tables)) (address a (valueOf c i) k))) refl
 made (Stor v w a i k) c =

@@ -3,7 +3,7 @@ use mathlib.Core.Path.{_≡_, refl, ap, sym, _∙_}
 use mathlib.Core.Logic.{_≢_}
 use mathlib.Core.Bool.{Bool, true, false, _&&_, _||_, not, cond}
 use mathlib.Core.List.{List, _∷_}
-use Prim.Native.Nat.{ℕ, _+_, _*_, _-_, _^_, _≤_, _<_, max}
+use Prim.Native.Nat.{ℕ, _+_, _*_, _-_, _^_, _≤_, _<_}
 use native.Mathlib.Nat.{add-zero, mul-comm}
 use native.Mathlib.Omega.{arith}
 use native.Mathlib.Decide.{ℕ-discrete}
@@ -12,14 +12,14 @@ use lib.Dec.{eqb, leb}
 use borrow.Author.Tests.{leb-true, leb-false, eqb-true, eqb-false, not-true}
 use Rattle.model.specs.Types.{Width, Table, Operand, variable, number, Setc, Copy, Addw, Subw, Mulw, Divf, Load, Bltu, Bequ, Edge, Next, Target, Range, Stripe}
 use Rattle.model.specs.Limits.{MAX, variables, blankVariable, greatestScale}
-use Rattle.model.specs.Facts.{between, exactly, Facts, rangeOf, valueAt}
-use Rattle.model.specs.Machine.{operandAt, bytesOf, sum, difference, product, quotient}
+use Rattle.model.specs.Facts.{exactly, Facts, rangeOf, valueAt}
+use Rattle.model.specs.Machine.{operandAt, bytesOf, sum, difference, product, nearestQuotient}
 use Rattle.model.specs.Transfer.{nothing, operandRange, sumFits, differenceFits, productFits, below, atLeast, atMost, overlap, without, hasOneValue, changed, operandChanged, dropped, stripe, apart, sumStripes, differenceStripes, productStripes, lessStripes, notLessStripes, equalStripes, factsAlong}
 use Rattle.model.proofs.Tests.{and-right, or-false, cond-cases}
 use Rattle.model.proofs.Meaning.{InRange, InRanges, AllHold, Met}
 use Rattle.model.proofs.Ranges.{OnlyAt, in-set, in-changed, blank-zero}
 use Rattle.model.proofs.Stripes.{same-hold, apart-holds, dropped-hold, by-number}
-use Rattle.model.proofs.Values.{div-ends, mul-ends}
+use Rattle.model.proofs.Values.{nearest-ends, mul-ends}
 
 module _ (vs : List ℕ) (f : Facts) (h : Met (valueAt vs) f) where
   pub in-operand : (o : Operand) → InRange (operandAt vs o) (operandRange (f .ranges) o)
@@ -124,16 +124,16 @@ module _ (vs : List ℕ) (f : Facts) (h : Met (valueAt vs) f) where
         chosen (productFits a b) _ _ _ _
         (λ t. omega (arith, ends (omega (arith, leb-true)))) (λ t. product-hold i o (omega (arith, ends (omega (arith, leb-true))))) (λ t. omega arith) (λ t. dropped-met)
 
-    pub divf-met : (e : Edge) (i : ℕ) (o : Operand) → 0 < operandAt vs o → valueAt vs′ d ≡ quotient (valueAt vs i) (operandAt vs o) → Met (valueAt vs′) (factsAlong e (Divf d i o) f)
+    pub divf-met : (e : Edge) (i : ℕ) (o : Operand) → 0 < operandAt vs o → valueAt vs′ d ≡ nearestQuotient (valueAt vs i) (operandAt vs o) → Met (valueAt vs′) (factsAlong e (Divf d i o) f)
     unfolding factsAlong
     divf-met e i o pos q =
         let r = h .ranges i in
         let p = in-operand o in
         let a = rangeOf (f .ranges) i in
         let b = operandRange (f .ranges) o in
-        let ends = div-ends (a .lo) (a .hi) (valueAt vs i) (b .lo) (b .hi) (operandAt vs o) (r .0) (r .1) (p .0) (p .1) pos in
+        let ends = nearest-ends (a .lo) (a .hi) (valueAt vs i) (b .lo) (b .hi) (operandAt vs o) (r .0) (r .1) (p .0) (p .1) pos in
         written _ _
-        (cond-cases (InRange (valueAt vs′ d)) (eqb (b .hi) 0) nothing (between (quotient (a .lo) (b .hi)) (quotient (a .hi) (max (b .lo) 1)))
+        (cond-cases (InRange (valueAt vs′ d)) (eqb (b .hi) 0) nothing _
         (λ t. absurd (omega (arith, eqb-true))) (λ t. omega (arith, ends)))
         dropped-met
 

@@ -2,8 +2,8 @@
 -- Answers are stated in numbers: the points of a listing that passes, or a refusal's number, place and second place, 0 for none.
 -- The rows after C10 go beyond them: each number that C1 to C10 do not show, 2 to 11, 15 and 16, and 12 once more, most with a second fault
 -- that is tested later; three rows of the printer and the runner; the call for claim lines; the slips that document 01 names, each beside a
--- like listing that passes; and document 02's requests, T-01 with a row for each of its clauses. C9 is the slip of the address. A third variable in a link and a fourth link stand with the slips:
--- no run goes wrong by them, so that soundness does not refuse them. 8 is shown on points that are read: 513 lines are too many to read by computation.
+-- like listing that passes; and document 02's requests, T-01 and T-02, with a row or more for each clause. C9 is the slip of the address. A third variable in a link and a
+-- fourth link stand with the slips: no run goes wrong by them, so that soundness does not refuse them. 8 is shown on points that are read: 513 lines are too many to read by computation.
 -- A listing is written a row a line: the word and the six fields, each as the text that stands at the right of its columns.
 use Prim.Native.Nat.{ℕ, zero, suc, _+_, _-_}
 use Prim.Native.String.{String}
@@ -288,6 +288,46 @@ looping n =
     ∷ row "STOP" "" "" "" "" "" ""
     ∷ [])
 
+-- register 0 divided by a number
+abbrev divided : String → List ℕ
+divided n = rows (row "DIVF" "1" "0" "" "" "1" n ∷ row "STOP" "" "" "" "" "" "" ∷ [])
+
+-- register 0, at most 7, divided by 2, with a claim that the quotient is at most m
+abbrev halved : String → List ℕ
+halved m =
+    rows
+    (row "MOST" "0" "" "" "" "" "7"
+    ∷ row "DIVF" "1" "0" "" "" "1" "2"
+    ∷ row "MOST" "1" "" "" "" "" m
+    ∷ row "STOP" "" "" "" "" "" ""
+    ∷ [])
+
+-- register 0, which is 7, divided by register 2, from 2 to 4, with a claim that the quotient lies from l to m
+abbrev shared : String → String → List ℕ
+shared l m =
+    rows
+    (row "LEAS" "0" "" "" "" "" "7"
+    ∷ row "LEAS" "2" "" "" "" "" "2"
+    ∷ row "MOST" "0" "" "" "" "" "7"
+    ∷ row "MOST" "2" "" "" "" "" "4"
+    ∷ row "DIVF" "1" "0" "" "" "0" "2"
+    ∷ row "LEAS" "1" "" "" "" "" l
+    ∷ row "MOST" "1" "" "" "" "" m
+    ∷ row "STOP" "" "" "" "" "" ""
+    ∷ [])
+
+-- register 1 divided by itself where its high end is 0 and its low end 1, with a claim on the quotient that no other range meets
+abbrev byNothing : List ℕ
+byNothing =
+    rows
+    (row "STOP" "" "" "" "" "" ""
+    ∷ row "LEAS" "1" "" "" "" "" "1"
+    ∷ row "MOST" "1" "" "" "" "" "0"
+    ∷ row "DIVF" "1" "1" "" "" "0" "1"
+    ∷ row "LEAS" "1" "" "" "" "" "9"
+    ∷ row "STOP" "" "" "" "" "" ""
+    ∷ [])
+
 -- a state at a point whose first three registers hold these numbers and the others 0
 abbrev standing : ℕ → ℕ → ℕ → ℕ → State
 standing p a b c = record { point = p; registers = a ∷ b ∷ c ∷ replicate 13 0 }
@@ -351,6 +391,10 @@ prints l t = record { given = line (printed (check l)); stated = line (bytes t) 
 -- a run from a state over trays and results with a budget
 abbrev runs : List ℕ → State → List ℕ → List ℕ → ℕ → HandedBack → Case
 runs l s ts rs n h = record { given = ofRun (run l s (lent ts rs) n); stated = h }
+
+-- a run in which register 0, which is x, is divided by a number: register 1 becomes q
+abbrev divides : ℕ → String → ℕ → Case
+divides x n q = runs (divided n) (standing 0 x 0 0) [] [] 1 (afterRun stops 1 (standing 1 x q 0) [] [])
 
 -- the claim lines of a point
 abbrev claimsAt : List ℕ → ℕ → Answer → List ℕ → Case
@@ -455,6 +499,28 @@ table =
     ∷ setsNothing "STOP" (six Blank Blank Blank Blank Blank Blank) 2 79 (refusedBy 18 0 0)
     ∷ hasRoom 1638 65520 accepts
     ∷ hasRoom 1639 65560 (refusedBy 18 0 0)
+    -- T-02, quotients: a half of an even divisor goes up, and what is below it down
+    ∷ divides 7 "2" 4
+    ∷ divides 6 "2" 3
+    ∷ divides 5 "10" 1
+    ∷ divides 4 "10" 0
+    -- no half of an odd divisor: from one number to the next the quotient rises
+    ∷ divides 3 "7" 0
+    ∷ divides 4 "7" 1
+    -- nothing divided, and the greatest numbers
+    ∷ divides 0 "1" 0
+    ∷ divides 4294967295 "1" 4294967295
+    ∷ divides 4294967295 "2" 2147483648
+    ∷ divides 2147483647 "4294967295" 0
+    ∷ divides 2147483648 "4294967295" 1
+    -- a claim that holds of quotients rounded down and not of the nearest, and the same redone
+    ∷ checked (halved "3") (refusedBy 14 2 3)
+    ∷ checked (halved "4") (passes 2)
+    -- both ends of the range, a claim above the low end, one below the high end, and an edge that is impossible
+    ∷ checked (shared "2" "4") (passes 2)
+    ∷ checked (shared "3" "4") (refusedBy 14 5 6)
+    ∷ checked (shared "2" "3") (refusedBy 14 5 7)
+    ∷ checked byNothing (passes 3)
     ∷ []
 
 -- what the definitions give in a case

@@ -2,7 +2,9 @@
 -- A configuration is a state with the bytes of the tables, so that it is a fact about the step, and no matter of notation, that the trays stay as they are.
 -- The tables are one thing and their sizes one list, which follows the registers among the values of all variables.
 -- The error state is a case of its own, and so is standing at STOP, which makes no step.
-use Prim.Native.Nat.{ℕ, zero, suc, _+_, _*_, _-_, _/_, _%_}
+-- The quotient of DIVF is that of document 02's T-02.
+use Prim.Native.Nat.{ℕ, zero, suc, _+_, _*_, _-_, _/_, _%_, _<_, _≤_}
+use mathlib.Core.Path.{_≡_}
 use mathlib.Core.Bool.{cond}
 use mathlib.Core.List.{List, [], _∷_, _++_}
 use lib.ListN.{length, getD, set}
@@ -102,9 +104,23 @@ difference x y = (x + (modulus - y)) % modulus
 abbrev pub product : ℕ → ℕ → ℕ
 product x y = x * y % modulus
 
--- the quotient of DIVF, rounded down
+-- a quotient rounded down
 abbrev pub quotient : ℕ → ℕ → ℕ
 quotient x y = x / y
+
+-- the quotient of DIVF: the nearest whole number, a half going up
+abbrev pub nearestQuotient : ℕ → ℕ → ℕ
+nearestQuotient x y = quotient (2 * x + y) (2 * y)
+
+-- q × y is at most half of y above x and less than half below; where it is half, y is even
+pub record Nearest (x y q : ℕ) : Type 0 where
+  pub above : 2 * (q * y) ≤ 2 * x + y
+  pub below : 2 * x < 2 * (q * y) + y
+  pub half : 2 * (q * y) ≡ 2 * x + y → y % 2 ≡ 0
+
+-- the promise of T-02: by every divisor above 0 the quotient of DIVF is the nearest whole number, and at most what is divided, so that a register holds it
+abbrev pub QuotientIsNearest : Type 0
+QuotientIsNearest = (x y : ℕ) → 0 < y → Nearest x y (nearestQuotient x y) × (nearestQuotient x y ≤ x)
 
 -- the address of an access, which never wraps
 abbrev pub address : ℕ → ℕ → ℕ → ℕ
@@ -142,7 +158,7 @@ stepOf (Addw d i o) c = next (wrote c d (sum (valueOf c i) (operandValue c o)))
 stepOf (Subw d i o) c = next (wrote c d (difference (valueOf c i) (operandValue c o)))
 stepOf (Mulw d i o) c = next (wrote c d (product (valueOf c i) (operandValue c o)))
 stepOf (Divf d i o) c =
-    cond (eqb (operandValue c o) 0) errorState (next (wrote c d (quotient (valueOf c i) (operandValue c o))))
+    cond (eqb (operandValue c o) 0) errorState (next (wrote c d (nearestQuotient (valueOf c i) (operandValue c o))))
 stepOf (Load d w b a i k) c =
     inside (address a (valueOf c i) k) w (tableOf b (c .tables)) (wrote c d (readBytes (bytesOf w) (tableOf b (c .tables)) (address a (valueOf c i) k)))
 stepOf (Stor v w a i k) c =

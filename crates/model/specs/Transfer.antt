@@ -1,4 +1,4 @@
--- Document 01, 'What a step does to claims': the ranges and the stripes along each edge of an instruction.
+-- Document 01, 'What a step does to claims', with DIVF's range from document 02's T-02: the ranges and the stripes along each edge of an instruction.
 -- The new ends of all ranges are computed from the ends before the step. Ends are whole numbers, and of an empty range only its emptiness
 -- counts: an edge with an empty range is impossible. A high end that falls below 0 is written as a range that holds nothing, or stands as
 -- 0 where the low end is at least 1 already (`without`). Where i is o, the change of o acts on the range that the change of i has made; that
@@ -13,7 +13,7 @@ use Rattle.model.specs.Limits.{MAX, blankVariable, greatestScale, greate
 use Rattle.model.specs.Lists.{kept}
 use Rattle.model.specs.Facts.{between, exactly, registerRange, Facts, rangeOf, nonEmpty}
 use Rattle.model.specs.Instructions.{targets, goesOn}
-use Rattle.model.specs.Machine.{bytesOf, quotient}
+use Rattle.model.specs.Machine.{bytesOf, nearestQuotient}
 
 -- the edges of an instruction to its successors: to the next point, then to the target
 abbrev pub edges : Instruction → List Edge
@@ -59,9 +59,9 @@ productFits r q = leb (r .hi * q .hi) MAX
 abbrev pub productRange : Range → Range → Range
 productRange r q = between (r .lo * q .lo) (r .hi * q .hi)
 
--- DIVF: lo(i) by hi(o) to hi(i) by the larger of lo(o) and 1; nothing where hi(o) is 0
-abbrev pub quotientRange : Range → Range → Range
-quotientRange r q = cond (eqb (q .hi) 0) nothing (between (quotient (r .lo) (q .hi)) (quotient (r .hi) (max (q .lo) 1)))
+-- DIVF: the nearest quotient of lo(i) by hi(o) to that of hi(i) by the larger of lo(o) and 1; nothing where hi(o) is 0
+abbrev pub nearestRange : Range → Range → Range
+nearestRange r q = cond (eqb (q .hi) 0) nothing (between (nearestQuotient (r .lo) (q .hi)) (nearestQuotient (r .hi) (max (q .lo) 1)))
 
 -- the high end at most one less than e; nothing where that falls below 0
 abbrev pub below : ℕ → Range → Range
@@ -123,7 +123,7 @@ rangesAlong e (Subw d i o) rs =
     set rs d (cond (differenceFits (rangeOf rs i) (operandRange rs o)) (differenceRange (rangeOf rs i) (operandRange rs o)) registerRange)
 rangesAlong e (Mulw d i o) rs =
     set rs d (cond (productFits (rangeOf rs i) (operandRange rs o)) (productRange (rangeOf rs i) (operandRange rs o)) registerRange)
-rangesAlong e (Divf d i o) rs = set rs d (quotientRange (rangeOf rs i) (operandRange rs o))
+rangesAlong e (Divf d i o) rs = set rs d (nearestRange (rangeOf rs i) (operandRange rs o))
 rangesAlong e (Load d w b a i k) rs = set rs d (between 0 (256 ^ bytesOf w - 1))
 rangesAlong e (Stor v w a i k) rs = rs
 rangesAlong e (Jump t) rs = rs

@@ -1,7 +1,8 @@
 // What instructions compute of numbers: differences, products and quotients of registers, and addresses.
 use model::limits::MODULUS;
 ghost use mathlib.Core.Path.{_≡_};
-ghost use Prim.Native.Nat.{_+_, _*_, _<_};
+ghost use Prim.Native.Nat.{_+_, _*_, _<_, _≤_};
+ghost use Rattle.model.specs.Limits.{MAX};
 ghost use Rattle.model.specs.Machine as Machine;
 
 // The difference as registers hold it.
@@ -18,12 +19,20 @@ pub fn product(x: u32, y: u32) -> u32
     ((x as u64) * (y as u64) % MODULUS) as u32
 }
 
-// The quotient, rounded down.
-pub fn quotient(x: u32, y: u32) -> u32
-    requires { ⌜ 0 < y ⌝ }
-    ensures { λ r. ⌜ r ≡ Machine.quotient x y ⌝ }
+// The nearest whole quotient, a half going up, of values of registers. Its parts need more than 32 bits.
+pub fn nearest_quotient(x: u64, y: u64) -> u64
+    requires { ⌜ (x ≤ MAX) × (y ≤ MAX) × (0 < y) ⌝ }
+    ensures { λ r. ⌜ r ≡ Machine.nearestQuotient x y ⌝ }
 {
-    x / y
+    (2 * x + y) / (2 * y)
+}
+
+// The nearest whole quotient of two registers, which a register holds.
+pub fn nearest_quotient_u32(x: u32, y: u32) -> u32
+    requires { ⌜ 0 < y ⌝ }
+    ensures { λ r. ⌜ r ≡ Machine.nearestQuotient x y ⌝ }
+{
+    nearest_quotient(x as u64, y as u64) as u32
 }
 
 // The address of an access, a whole number that is never reduced.

@@ -17,7 +17,7 @@ use Rattle.model.specs.declared.machine.Instruction.{Instruction}
 use Rattle.model.specs.declared.machine.Instruction.the-variants.{Stop, Setc, Copy, Addw, Subw, Mulw, Divf, Load, Stor, Jump, Bltu, Bequ}
 use Rattle.model.specs.Limits.{registers, tables}
 use Rattle.model.specs.Facts.{valueAt}
-use Rattle.model.specs.Machine.{Tables, lent, tableOf, sizesOf, Config, valuesFrom, operandAt, bytesOf, readBytes, writeBytes, sum, difference, product, quotient, address, wrote, went, stored, next, errorState, inside, stepOf, at, settled}
+use Rattle.model.specs.Machine.{Tables, lent, tableOf, sizesOf, Config, valuesFrom, operandAt, bytesOf, readBytes, writeBytes, sum, difference, product, nearestQuotient, address, wrote, went, stored, next, errorState, inside, stepOf, at, settled}
 use Rattle.model.proofs.Values.{write-long}
 use Rattle.steps.specs.Stepped.{config, ValuesOver, Steppable, Stepped}
 
@@ -71,9 +71,9 @@ module _ (p : ℕ) (vs : List ℕ) (t : Tables) (over : ValuesOver vs t) where
 
   -- DIVF: its step is an error where the divisor is 0
   module _ (d i : ℕ) (o : Operand) where
-    divf-step : stepOf (Divf d i o) (config p vs t) ≡ cond (eqb (operandAt vs o) 0) errorState (next (wrote (config p vs t) d (quotient (valueAt vs i) (operandAt vs o))))
+    divf-step : stepOf (Divf d i o) (config p vs t) ≡ cond (eqb (operandAt vs o) 0) errorState (next (wrote (config p vs t) d (nearestQuotient (valueAt vs i) (operandAt vs o))))
     unfolding stepOf
-    divf-step = ap (λ (us : List ℕ). cond (eqb (operandAt us o) 0) errorState (next (wrote (config p vs t) d (quotient (valueAt us i) (operandAt us o))))) (sym over)
+    divf-step = ap (λ (us : List ℕ). cond (eqb (operandAt us o) 0) errorState (next (wrote (config p vs t) d (nearestQuotient (valueAt us i) (operandAt us o))))) (sym over)
 
     pub divisor : (stepOf (Divf d i o) (config p vs t) ≡ errorState → ⊥) → 0 < operandAt vs o
     divisor safe = go (ℕ-discrete (operandAt vs o) 0)
@@ -82,7 +82,7 @@ module _ (p : ℕ) (vs : List ℕ) (t : Tables) (over : ValuesOver vs t) where
         go (yes e) = absurd (safe (divf-step ∙ rw (eq-eqb _ _ e)))
         go (no e) = omega arith
 
-    pub divf-stepped : d < registers → 0 < operandAt vs o → Stepped (Divf d i o) p vs t (p + 1) (set vs d (quotient (valueAt vs i) (operandAt vs o))) t
+    pub divf-stepped : d < registers → 0 < operandAt vs o → Stepped (Divf d i o) p vs t (p + 1) (set vs d (nearestQuotient (valueAt vs i) (operandAt vs o))) t
     divf-stepped h pos = put-stepped d _ h (Divf d i o) (divf-step ∙ rw (ne-eqb (operandAt vs o) 0 (λ e. omega arith)))
 
   -- an access outside its table is an error

@@ -9,8 +9,8 @@ use model::machine::Table;
 use model::machine::Width;
 use operations::arithmetic::address;
 use operations::arithmetic::difference;
+use operations::arithmetic::nearest_quotient_u32;
 use operations::arithmetic::product;
-use operations::arithmetic::quotient;
 use operations::bytes::load;
 use operations::bytes::store;
 ghost use mathlib.Core.Path.{_≡_};
@@ -67,14 +67,14 @@ fn multiply(values: &mut [u32; VARIABLES], point: usize, d: usize, i: usize, o: 
     put(values, d, z, point)
 }
 
-// DIVF: the quotient, written. The divisor is above 0.
+// DIVF: the nearest quotient, written. The divisor is above 0.
 fn divide(values: &mut [u32; VARIABLES], point: usize, d: usize, i: usize, o: Operand) -> usize
     requires { ⌜ (point < greatestPoints) × (d < registers) × (i < variables) × OperandLimited o × (0 < operandAt (now values) o) ⌝ }
-    ensures { λ r. ⌜ Written point d (Machine.quotient (valueAt (now (values .entry)) i) (operandAt (now (values .entry)) o)) (now (values .entry)) r (now (values .exit)) ⌝ }
+    ensures { λ r. ⌜ Written point d (Machine.nearestQuotient (valueAt (now (values .entry)) i) (operandAt (now (values .entry)) o)) (now (values .entry)) r (now (values .exit)) ⌝ }
 {
     let x = values[i];
     let y = operand_value(values, o);
-    let z = quotient(x, y);
+    let z = nearest_quotient_u32(x, y);
     put(values, d, z, point)
 }
 

@@ -41,6 +41,17 @@ fn arithmetic() -> Timed {
     Timed { listing, count: 20_000, table: 0, budget: u32::MAX }
 }
 
+/// A loop of quotients of numbers of 32 bits, by numbers and by a register.
+fn quotients() -> Timed {
+    let kept = "LEAS 3 _ _ _ _ 1;";
+    let listing = listing(&format!(
+        "{kept} SETC 0 _ _ _ _ 0; {kept} BLTU _ 0 _ 3 0 1; STOP; {kept} ADDW 2 2 _ _ 1 2654435769;
+         {kept} DIVF 4 2 _ _ 1 10; {kept} DIVF 5 2 _ _ 0 3; {kept} DIVF 6 2 _ _ 1 4294967295;
+         {kept} ADDW 0 0 _ _ 1 1; {kept} JUMP _ _ _ 1"
+    ));
+    Timed { listing, count: 35_000, table: 0, budget: u32::MAX }
+}
+
 /// A call that pauses soon.
 fn short(listing: Vec<u8>) -> Timed {
     Timed { listing, count: 20, table: 256, budget: 10 }
@@ -53,6 +64,7 @@ pub fn print_runs(rows: &mut Rows) {
         ("loads of 2 bytes", access_loop(TRAYS, 2, "LOAD 2 2 0 1 0 0")),
         ("loads of 4 bytes", access_loop(TRAYS, 4, "LOAD 2 4 0 1 0 0")),
         ("arithmetic", arithmetic()),
+        ("quotients", quotients()),
         ("budget 10, 6 points", short(small())),
         ("budget 10, 512 points", short(typical(512))),
     ];

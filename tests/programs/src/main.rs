@@ -17,6 +17,7 @@ mod moments;
 mod output;
 mod paths;
 mod process;
+mod readme;
 mod routines;
 mod runs;
 mod signals;
@@ -73,6 +74,7 @@ fn all() -> Vec<Test> {
         interleaved::tests(),
         moments::tests(),
         runs::tests(),
+        readme::tests(),
         twice::tests(),
         words::tests(),
         batches::tests(),

@@ -29,7 +29,7 @@ fn pieces() -> Result<(), String> {
         call.state = run.state;
         call.results = folder.get("results");
     }
-    ensure(call.results == [66, 0, 100, 255, 7], || format!("results {:?}", call.results))
+    ensure(call.results == [67, 0, 100, 255, 7], || format!("results {:?}", call.results))
 }
 
 /// The first trials of every family whose states a file can hold.

@@ -2,6 +2,7 @@
 
 use crate::known::{Known, Range};
 use crate::line::{Arithmetic, Comparison, Instruction, Operand, Stripe, Whole, BOUND_LIMIT, MAX};
+use crate::quotient::nearest;
 
 /// Where an edge leads, and what is known along it. Along an impossible edge, nothing need be shown.
 #[derive(Clone, Debug)]
@@ -153,7 +154,7 @@ fn divided(before: &Known, d: usize, i: usize, o: Operand) -> Option<Known> {
     if right.hi == 0 {
         return None;
     }
-    let quotient = Range { lo: left.lo / right.hi, hi: left.hi / right.lo.max(1) };
+    let quotient = Range { lo: nearest(left.lo, right.hi), hi: nearest(left.hi, right.lo.max(1)) };
     Some(written(before, d, quotient, &[]))
 }
 

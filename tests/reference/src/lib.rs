@@ -9,6 +9,7 @@ mod line;
 mod listing;
 mod machine;
 mod output;
+mod quotient;
 pub mod refusals;
 mod runner;
 mod set;

@@ -3,6 +3,7 @@
 use crate::known::Known;
 use crate::line::{Arithmetic, Comparison, Instruction, Operand, Stripe, Whole, MAX, REGISTERS, TRAYS_SIZE};
 use crate::listing::{Listing, Point};
+use crate::quotient::nearest;
 
 #[derive(Clone, Copy, Debug, PartialEq, Eq)]
 pub struct State {
@@ -89,7 +90,7 @@ fn compute(kind: Arithmetic, left: Whole, right: Whole) -> Option<Whole> {
         Arithmetic::Add => Some((left + right).rem_euclid(MAX + 1)),
         Arithmetic::Subtract => Some((left - right).rem_euclid(MAX + 1)),
         Arithmetic::Multiply => Some((left * right).rem_euclid(MAX + 1)),
-        Arithmetic::Divide => (right != 0).then(|| left / right),
+        Arithmetic::Divide => (right != 0).then(|| nearest(left, right)),
     }
 }
 

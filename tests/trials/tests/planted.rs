@@ -1,6 +1,9 @@
 //! A checker that is wrong on purpose is found out, and the listing that shows it is small.
 
-use reference::{check, edges, goal_follows, read, Answer, Claim, Edge, Instruction, Known, Operand, Stripe};
+use reference::{
+    check, edges, goal_follows, read, Answer, Arithmetic, Claim, Edge, Instruction, Known, Operand, Range, Stripe,
+    Whole, LINKS, MAX,
+};
 use trials::{all, compare, of_reference, Difference, Verdict};
 
 /// The first difference between the reference and a wrong checker, in the family whose name has this part.
@@ -62,6 +65,70 @@ fn divides_by_what_may_be_zero(listing: &[u8]) -> Answer {
     })
 }
 
+/// The range of a quotient, from those of the dividend and the divisor; none where no step is possible.
+type QuotientRange<'a> = &'a dyn Fn(Range, Range) -> Option<Range>;
+
+/// The reference's answer, with another range after divisions where it is PASS or 14.
+fn with_quotients(listing: &[u8], range: QuotientRange) -> Answer {
+    let answer = check(listing);
+    if !matches!(answer.number, 0 | 14) {
+        return answer;
+    }
+    let points = read(listing).expect("12 to 14 come after reading").points;
+    for (at, point) in points.iter().enumerate() {
+        let before = Known::at(point);
+        for Edge { to, mut known } in edges(at, &point.instruction, &before) {
+            if let Instruction::Compute { kind: Arithmetic::Divide, d, i, o } = point.instruction {
+                known = divided(&before, d, i, o, range);
+            }
+            let Some(known) = known else { continue };
+            if let Some(claim) = points[to].claims.iter().find(|claim| !follows(&known, &claim.claim)) {
+                return Answer { number: 14, place: point.line, second: claim.line, points: 0 };
+            }
+        }
+    }
+    Answer { number: 0, place: 0, second: 0, points: points.len() as u64 }
+}
+
+fn divided(before: &Known, d: usize, i: usize, o: Operand, range: QuotientRange) -> Option<Known> {
+    let by = match o {
+        Operand::Variable(v) => before.ranges[v],
+        Operand::Number(number) => Range::only(number),
+    };
+    let mut after = before.clone();
+    after.ranges[d] = range(before.ranges[i], by)?;
+    after.stripes.retain(|stripe| stripe.x != d && stripe.y != d && stripe.z != Some(d));
+    (!after.has_empty_range()).then_some(after)
+}
+
+fn follows(known: &Known, claim: &Claim) -> bool {
+    match *claim {
+        Claim::Least { v, value } => known.ranges[v].lo >= value,
+        Claim::Most { v, value } => known.ranges[v].hi <= value,
+        Claim::Stripe(goal) => goal_follows(known, &goal, LINKS),
+    }
+}
+
+fn nearest(i: Whole, o: Whole) -> Whole {
+    (2 * i + o) / (2 * o)
+}
+
+/// The range with both ends by this quotient, and right in everything else.
+fn ends_by(quotient: fn(Whole, Whole) -> Whole) -> impl Fn(Range, Range) -> Option<Range> {
+    move |of, by| (by.hi != 0).then(|| Range { lo: quotient(of.lo, by.hi), hi: quotient(of.hi, by.lo.max(1)) })
+}
+
+const VALUES: &str = "quotients of one value";
+const RANGES: &str = "quotients of ranges";
+
+/// The numbers of the reference and of the checker with a wrong range, on a small listing of the family.
+fn quotient_found(part: &str, range: QuotientRange) -> (u64, u64) {
+    let difference = found(part, &|listing| with_quotients(listing, range));
+    // a range each for dividend and divisor, a division, a claim and STOP
+    assert!(difference.listing.len() <= 7 * 40, "{difference}");
+    (difference.left.answer.number, difference.right.answer.number)
+}
+
 /// A wrong checker that lets claims stand in any order.
 fn any_order(listing: &[u8]) -> Answer {
     match check(listing) {
@@ -97,4 +164,70 @@ fn claims_out_of_order_are_found() {
     let difference = found("order of claims", &any_order);
     assert_eq!(difference.left.answer.number, 6);
     assert_eq!(difference.listing.len(), 2 * 40);
+}
+
+/// What is planted below differs from the reference in the range of quotients alone.
+#[test]
+fn the_right_range_of_quotients_makes_no_difference() {
+    let right = ends_by(nearest);
+    for family in all().into_iter().map(|family| family.thinned(10)) {
+        for listing in (0..family.batches).flat_map(|batch| family.batch(batch)) {
+            assert_eq!(check(&listing), with_quotients(&listing, &right));
+        }
+    }
+}
+
+#[test]
+fn ends_rounded_down_are_found() {
+    let down = ends_by(|i, o| i / o);
+    quotient_found(VALUES, &down);
+    quotient_found(RANGES, &down);
+}
+
+#[test]
+fn ends_where_a_half_goes_down_are_found() {
+    let half_down = ends_by(|i, o| (2 * i + o - 1) / (2 * o));
+    quotient_found(VALUES, &half_down);
+    quotient_found(RANGES, &half_down);
+}
+
+#[test]
+fn ends_by_a_divisor_that_is_not_doubled_are_found() {
+    let not_doubled = ends_by(|i, o| (2 * i + o) / o);
+    quotient_found(VALUES, &not_doubled);
+    quotient_found(RANGES, &not_doubled);
+}
+
+#[test]
+fn ends_from_a_sum_of_32_bits_are_found() {
+    let doubled = ends_by(|i, o| (2 * i + o) % (MAX + 1) / (2 * o));
+    let halved = ends_by(|i, o| (i + o / 2) % (MAX + 1) / o);
+    for part in [VALUES, RANGES] {
+        quotient_found(part, &doubled);
+        quotient_found(part, &halved);
+    }
+}
+
+#[test]
+fn a_high_end_by_the_greatest_divisor_is_found() {
+    let high = |of: Range, by: Range| {
+        let right = ends_by(nearest)(of, by)?;
+        Some(Range { hi: nearest(of.hi, by.hi), ..right })
+    };
+    assert_eq!(quotient_found(RANGES, &high), (14, 0));
+}
+
+#[test]
+fn a_low_end_by_the_least_divisor_is_found() {
+    let low = |of: Range, by: Range| {
+        let right = ends_by(nearest)(of, by)?;
+        Some(Range { lo: nearest(of.lo, by.lo.max(1)), ..right })
+    };
+    assert_eq!(quotient_found(RANGES, &low), (14, 0));
+}
+
+#[test]
+fn a_step_by_what_can_only_be_zero_is_found() {
+    let by_one = |of: Range, by: Range| ends_by(nearest)(of, Range { hi: by.hi.max(1), ..by });
+    assert_eq!(quotient_found(RANGES, &by_one), (0, 14));
 }

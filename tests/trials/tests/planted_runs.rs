@@ -49,6 +49,19 @@ fn saturating(call: &Call) -> After {
     })
 }
 
+/// Divisions of registers with another quotient.
+fn dividing(call: &Call, quotient: fn(u64, u64) -> u64) -> After {
+    stepped(call, &|instruction, before, next, _| {
+        let Instruction::Compute { kind: Arithmetic::Divide, d, i: i @ 0..=15, o } = *instruction else { return };
+        let divisor = match o {
+            Operand::Number(number) => number as u64,
+            Operand::Variable(v @ 0..=15) => u64::from(before.registers[v]),
+            Operand::Variable(_) => return,
+        };
+        next.registers[d] = quotient(u64::from(before.registers[i]), divisor) as u32;
+    })
+}
+
 /// Stores of two bytes with the greater one first.
 fn greater_byte_first(call: &Call) -> After {
     stepped(call, &|instruction, before, _, results| {
@@ -144,4 +157,45 @@ fn results_changed_by_a_refusal_are_found() {
 fn a_changed_tray_is_found() {
     let difference = found("routines", &writes_trays);
     assert!(lines_of(&difference) <= 2 && difference.call.trays.len() == 1, "{difference}");
+}
+
+/// A wrong quotient is found where values are divided and where they lie in ranges, by one division.
+#[track_caller]
+fn quotient_found(quotient: fn(u64, u64) -> u64) {
+    for part in ["quotients of values", "quotients of ranges"] {
+        let difference = found(part, &|call| dividing(call, quotient));
+        assert!(lines_of(&difference) <= 3 && difference.call.budget == 1, "{difference}");
+    }
+}
+
+/// What is planted below differs from the reference in the quotient alone.
+#[test]
+fn the_right_quotient_makes_no_difference() {
+    let right = |call: &Call| dividing(call, |i, o| (2 * i + o) / (2 * o));
+    for family in all_runs().into_iter().map(|family| family.thinned(20)) {
+        if let Err(difference) = compare_runs(&family, &[("right", &right)]) {
+            panic!("{difference}");
+        }
+    }
+}
+
+#[test]
+fn a_quotient_rounded_down_is_found() {
+    quotient_found(|i, o| i / o);
+}
+
+#[test]
+fn a_half_that_goes_down_is_found() {
+    quotient_found(|i, o| (2 * i + o - 1) / (2 * o));
+}
+
+#[test]
+fn a_divisor_that_is_not_doubled_is_found() {
+    quotient_found(|i, o| (2 * i + o) / o);
+}
+
+#[test]
+fn a_quotient_from_a_sum_of_32_bits_is_found() {
+    quotient_found(|i, o| ((2 * i + o) as u32 as u64) / (2 * o));
+    quotient_found(|i, o| ((i + o / 2) as u32 as u64) / o);
 }

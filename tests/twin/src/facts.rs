@@ -1,6 +1,7 @@
 //! Ranges and stripes at a point and along its edges. Ends are signed, so that an end below 0 stays below 0.
 
 use crate::line::{Claim, Operand, BLANK, BOUND_LIMIT, MAX, RESULTS_SIZE, SIZE_LIMIT, TRAYS_SIZE};
+use crate::quotient::nearest;
 
 pub const VARIABLES: usize = 18;
 const MOST_STRIPES: usize = 10;
@@ -204,7 +205,8 @@ impl Facts {
         if hi_o == 0 {
             return false;
         }
-        self.write(d, lo / hi_o, hi / lo_o.max(1));
+        let (least, most) = (nearest(lo as u64, hi_o as u64), nearest(hi as u64, lo_o.max(1) as u64));
+        self.write(d, least as i64, most as i64);
         true
     }
 

@@ -4,6 +4,7 @@
 mod facts;
 mod follow;
 mod line;
+mod quotient;
 mod read;
 mod run;
 mod set;

@@ -3,6 +3,7 @@
 
 use crate::facts::{Facts, Stripe, VARIABLES};
 use crate::line::{Instruction, Operand, RESULTS_SIZE, SIZE_LIMIT, TRAYS_SIZE};
+use crate::quotient::nearest;
 use crate::read::{in_room, Listing, Point};
 use crate::{checked, Answer};
 use reference::refusals::{CLAIMS_NOT_MET, NO_SUCH_POINT, TABLE_TOO_LONG};
@@ -109,7 +110,7 @@ fn step(instruction: &Instruction, at: usize, values: &mut Values, trays: &[u8],
         Instruction::Add { d, i, o } => (d, value(i).wrapping_add(operand(o))),
         Instruction::Subtract { d, i, o } => (d, value(i).wrapping_sub(operand(o))),
         Instruction::Multiply { d, i, o } => (d, value(i).wrapping_mul(operand(o))),
-        Instruction::Divide { d, i, o } => (d, value(i) / operand(o)),
+        Instruction::Divide { d, i, o } => (d, nearest(u64::from(value(i)), u64::from(operand(o))) as u32),
         Instruction::Load { d, width, size, scale, i, offset } => {
             let address = scale as usize * value(i) as usize + offset as usize;
             let table = if size == TRAYS_SIZE { trays } else { &*results };

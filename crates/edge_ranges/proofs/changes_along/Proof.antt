@@ -141,7 +141,7 @@ returns-7 : tie.Need-returns-7
 unfolding rangesAlong
 returns-7 c =
     let a = c .before .before .before .before .before .before .args in
-    rw (c .before .before .before .before .i6 .given .1) (rw (c .before .quotient .ensures, c .before .before .ranges-at4 .ensures .0) at (c .one6 .ensures (rangesOf (a .low .now) (a .high .now))))
+    rw (c .before .before .before .before .i6 .given .1) (rw (c .before .nearest-range .ensures, c .before .before .ranges-at4 .ensures .0) at (c .one6 .ensures (rangesOf (a .low .now) (a .high .now))))
 
 returns-8 : tie.Need-returns-8
 unfolding rangesAlong

@@ -6,6 +6,7 @@ pub(crate) mod limits;
 pub(crate) mod nudges;
 pub(crate) mod pieces;
 pub(crate) mod probes;
+pub(crate) mod quotients;
 mod routines;
 
 pub use routines::{guarded_loop, routine, Loop};
@@ -48,6 +49,8 @@ pub fn all() -> Vec<Family> {
         Family::new("a few random points over few variables", 7, 24_000, probes::jumble),
         Family::new("stripe bounds shifted at their limits", 8, 6_000, probes::shifted),
         Family::new("an empty range that the step overwrites", 15, 8_000, probes::emptied),
+        Family::new("quotients of one value by one value", 17, 10_000, quotients::of_values),
+        Family::new("quotients of ranges, claims at and beside their ends", 18, 16_000, quotients::of_ranges),
         Family::new("damaged text", 9, 6_000, damage::damaged),
         Family::new("two damages at once", 10, 2_000, damage::damaged_twice),
         Family::new("fields at and beside their limits", 11, 8_000, limits::fields),

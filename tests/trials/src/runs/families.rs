@@ -2,6 +2,7 @@
 //! made again from the family and the batch.
 
 use super::call::Call;
+use super::quotients;
 use super::resume::budget;
 use super::starts::{any, bytes, meeting, meeting_at, missing, Start};
 use crate::draft::{Draft, DraftPoint};
@@ -55,11 +56,13 @@ pub fn all_runs() -> Vec<RunFamily> {
         family("a table of more than 65,536 bytes", 107, 1_500, long_tables),
         family("listings turned back", 108, 8_000, turned_back),
         family("512 and 513 points", 109, 1_500, many_points),
+        family("quotients of values at and beside a half", 110, 16_000, quotients::of_values),
+        family("quotients of ranges, from states that meet them", 111, 12_000, quotients::of_ranges),
     ]
 }
 
 /// A trial from a start, with a budget drawn for it.
-fn trial(random: &mut Random, listing: &[u8], start: Start, runs: usize) -> Trial {
+pub(super) fn trial(random: &mut Random, listing: &[u8], start: Start, runs: usize) -> Trial {
     let Start { state, trays, results } = start;
     let mut call = Call { listing: listing.to_vec(), state, trays, results, budget: 0 };
     call.budget = budget(random, &call);

@@ -4,6 +4,7 @@
 mod call;
 mod comparison;
 mod families;
+mod quotients;
 mod resume;
 mod shrink;
 mod starts;

@@ -1,0 +1,37 @@
+//! Commands as README has them print what README shows.
+
+use crate::expect::{ensure, Test};
+use crate::folder::{program, root, Folder};
+use crate::process::said;
+use std::fs;
+use std::os::unix::fs::symlink;
+use std::process::Command;
+
+pub fn tests() -> Vec<Test> {
+    vec![
+        ("README's run prints what README shows", || prints("readme_run", "Run a listing", 0)),
+        ("README's listing that is turned back, and redone", || prints("readme_line", "How to read the line", 1)),
+    ]
+}
+
+/// The first code of a chapter, with this folder in place of /tmp, prints its second code and ends with the status.
+fn prints(folder: &str, chapter: &str, status: i32) -> Result<(), String> {
+    let text = fs::read_to_string(root().join("README.md")).expect("README.md is there");
+    let (_, text) = text.split_once(&format!("\n## {chapter}\n")).ok_or("README has no such chapter")?;
+    let mut codes = text.split("\n\n").filter_map(code);
+    let (commands, lines) = codes.next().zip(codes.next()).ok_or("README shows nothing")?;
+    let folder = Folder::new(folder);
+    for name in ["run-listing", "check-listing"] {
+        symlink(program(name), folder.at(name)).expect("a link can be made");
+    }
+    symlink(root().join("examples"), folder.at("examples")).expect("a link can be made");
+    let commands = commands.replace("/tmp", &folder.path(""));
+    let said = said(Command::new("bash").arg("-e").arg("-c").arg(&commands).current_dir(folder.place()));
+    ensure(said.status == status && said.output == lines, || format!("{}{}", said.error, said.output))
+}
+
+/// A paragraph of README that is code, as it is typed or printed.
+fn code(paragraph: &str) -> Option<String> {
+    let lines: Option<Vec<&str>> = paragraph.trim_matches('\n').lines().map(|line| line.strip_prefix("    ")).collect();
+    lines.map(|lines| lines.join("\n") + "\n")
+}
