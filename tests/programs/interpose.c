@@ -10,6 +10,8 @@
                stop    the process that makes the call is stopped right after it, and no other
                fail    the call fails with EIO
                fails   this call and all that follow fail with EIO
+               term    the leader of the group is sent SIGTERM right after the call; only its own calls are counted, and those that
+                       turn a descriptor elsewhere too
                slow    nothing is broken, but each time that bash has started a process it waits a moment, in which the process may
                        end: before the BREAK_AT-th time from there that it blocks signals
    BREAK_IN    only calls of processes of this name count; empty: those of all
@@ -39,7 +41,7 @@ struct shared {
     char log[1 << 16]; /* a line for each call */
 };
 
-enum action { NOTHING, FAIL, AFTER, PART, STOP };
+enum action { NOTHING, FAIL, AFTER, PART, STOP, TERM };
 
 static struct shared *shared;
 static uint32_t at;
@@ -106,6 +108,8 @@ static enum action counted(const char *call, const char *path)
 {
     if (shared == NULL || is_how("slow") || (is_how("part") && strcmp(call, "write") != 0))
         return NOTHING;
+    if (is_how("term") && getpid() != shared->group)
+        return NOTHING;
     uint32_t now = __atomic_add_fetch(&shared->calls, 1, __ATOMIC_SEQ_CST);
     if (at == 0 || now <= at)
         note(call, path);
@@ -118,7 +122,7 @@ static enum action counted(const char *call, const char *path)
         end_all();
     if (is_how("alone"))
         kill(getpid(), SIGKILL);
-    return is_how("after") ? AFTER : is_how("part") ? PART : is_how("stop") ? STOP : FAIL;
+    return is_how("after") ? AFTER : is_how("part") ? PART : is_how("stop") ? STOP : is_how("term") ? TERM : FAIL;
 }
 
 static enum action counted_of(const char *call, int fd)
@@ -151,6 +155,8 @@ static void afterwards(enum action action)
         end_all();
     if (action == STOP)
         kill(getpid(), SIGSTOP);
+    if (action == TERM)
+        kill(getpid(), SIGTERM);
     errno = saved;
 }
 
@@ -214,6 +220,11 @@ int creat(const char *path, mode_t mode)
 int creat64(const char *path, mode_t mode)
 {
     PASSED_ON(int, creat64, counted("open", path), path, mode);
+}
+
+int dup2(int from, int to)
+{
+    PASSED_ON(int, dup2, is_how("term") ? counted_of("dup2", from) : NOTHING, from, to);
 }
 
 /* Writing */

@@ -17,6 +17,7 @@ pub enum How {
     Fail,
     Fails,
     Slow,
+    Term,
 }
 
 /// The processes whose calls are counted.
@@ -48,6 +49,7 @@ impl How {
             How::Fail => "fail",
             How::Fails => "fails",
             How::Slow => "slow",
+            How::Term => "term",
         }
     }
 
