@@ -4,7 +4,7 @@ use recovery::left::Left;
 use recovery::names::folder_length;
 ghost use mathlib.Core.Path.{_≡_};
 ghost use Rattle.recovery.specs.Names.{newName};
-ghost use Rattle.run_listing.specs.Program.{isWhole};
+ghost use Rattle.run_listing.specs.Reading.{isWhole};
 
 // Says what is wrong with a file, and why.
 pub fn say(path: &[u8], why: &[u8]) {

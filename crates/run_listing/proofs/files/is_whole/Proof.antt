@@ -10,7 +10,7 @@ use lib.Signed.{ltZ}
 use mir.Syntax.{w64}
 use mir.Val.{ofZ, toZ, SFits}
 use mir.ValLaws.{toZ-ofZ}
-use Rattle.run_listing.specs.Program.{isWhole}
+use Rattle.run_listing.specs.Reading.{isWhole}
 use Rattle.run_listing.proofs.files.is_whole.Statement.{statement}
 use Rattle.run_listing.proofs.files.is_whole.Tie as tie
 

@@ -1,12 +1,9 @@
--- What the program makes of the bytes of its files: the run, the line that it prints, and what it saves.
--- A file is read up to the size of a buffer, and then asked for one byte more: 0 says that it ended there, a number above 0 that there
--- is more, and one below 0 that reading failed.
+-- What a run makes of the bytes of its files: the run itself, the line that is printed, and what is saved.
 use Prim.Native.Nat.{ℕ}
 use mathlib.Core.Path.{_≡_}
-use mathlib.Core.Bool.{Bool, true, false, _||_, cond}
+use mathlib.Core.Bool.{Bool, true, false, cond}
 use mathlib.Core.List.{List}
 use lib.Dec.{ltb, eqb}
-use lib.IntN.{ℤ, pos, negsuc}
 use Rattle.model.specs.declared.answers.Report.{Report}
 use Rattle.model.specs.declared.answers.Report.the-variants.{Stopped, Paused, Refused as refusedRun}
 use Rattle.model.specs.Limits.{greatestSize}
@@ -17,11 +14,6 @@ use Rattle.saved.specs.declared.numbers.Parsed.the-variants.{Number, NoNumber}
 use Rattle.saved.specs.Numbers.{numberIn}
 use Rattle.saved.specs.States.{savedIn, textOf}
 use Rattle.output.specs.RunLine.{answerLine}
-
--- n bytes are the whole of a file: it ended there, or it fills the buffer, which no listing, table or state may do
-abbrev pub isWhole : ℤ → ℕ → ℕ → Bool
-isWhole (pos k) n size = eqb n size || eqb k 0
-isWhole (negsuc k) n size = false
 
 -- the steps that a budget allows; none where it is no number
 abbrev pub stepsOf : Parsed → ℕ

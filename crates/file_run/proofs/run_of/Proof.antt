@@ -7,9 +7,9 @@ use Rattle.model.specs.Run.{Ran, run}
 use Rattle.saved.specs.declared.states.Saved.{Saved}
 use Rattle.saved.specs.States.{savedIn, textOf}
 use Rattle.output.specs.RunLine.{answerLine}
-use Rattle.run_listing.specs.Program.{runOf}
-use Rattle.run_listing.proofs.run_of.Statement.{statement}
-use Rattle.run_listing.proofs.run_of.Tie as tie
+use Rattle.file_run.specs.FileRun.{runOf}
+use Rattle.file_run.proofs.run_of.Statement.{statement}
+use Rattle.file_run.proofs.run_of.Tie as tie
 
 returns : tie.Need-returns
 returns c =

@@ -1,7 +1,7 @@
 -- Test by test. Assumes nothing.
 use borrow.Author.Tests.{lt-ltb, le-ltb, eq-eqb, ne-eqb}
-use Rattle.run_listing.proofs.file_of.Statement.{statement}
-use Rattle.run_listing.proofs.file_of.Tie as tie
+use Rattle.file_run.proofs.file_of.Statement.{statement}
+use Rattle.file_run.proofs.file_of.Tie as tie
 
 returns : tie.Need-returns
 returns c = simp (lt-ltb _ _ (c .if1 .taken))

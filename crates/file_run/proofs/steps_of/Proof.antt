@@ -1,9 +1,9 @@
 -- The number that was parsed. Assumes nothing.
 use borrow.Author.Needs.{needs}
 use mathlib.Core.Path.{ap, sym, _∙_}
-use Rattle.run_listing.specs.Program.{stepsOf}
-use Rattle.run_listing.proofs.steps_of.Statement.{statement}
-use Rattle.run_listing.proofs.steps_of.Tie as tie
+use Rattle.file_run.specs.FileRun.{stepsOf}
+use Rattle.file_run.proofs.steps_of.Statement.{statement}
+use Rattle.file_run.proofs.steps_of.Tie as tie
 
 enum-told : tie.Need-enum-told
 enum-told c = search needs
