@@ -1,5 +1,1 @@
-pub mod FirstRefusal
-pub mod Owed
-pub mod LostClaims
-pub mod AccessNumbers
 pub mod Verdicts

@@ -1,11 +1,7 @@
-// The checker: what each point owes, its answer, and the printed line.
-mod lost;
-mod points;
-mod safety;
-
-use crate::points::points_judged;
+// The checker: its answer, and the printed line.
 use model::answers::Judgement;
 use model::answers::Verdict;
+use obligations::points::points_judged;
 use output::printed::printed;
 use reader::listing::Listing;
 use reader::listing::read_listing;

@@ -12,7 +12,7 @@ ghost use Rattle.model.specs.Output.{printed};
 ghost use Rattle.model.specs.Machine.{lent};
 ghost use Rattle.model.specs.Run as Run;
 ghost use Rattle.output.specs.Arrays.{answerOf, partAnswer, runAnswer};
-ghost use Rattle.runner.specs.Runs.{state};
+ghost use Rattle.state_tests.specs.States.{state};
 ghost use Rattle.exports.specs.Answer.{RunAnswered, RunAnsweredInPlace};
 
 // The checker's answer for a listing: number, place, second place, points.

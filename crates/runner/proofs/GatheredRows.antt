@@ -14,7 +14,7 @@ use Rattle.decoded.specs.Decoded.{instructionFrom}
 use Rattle.decoded.proofs.WrittenRows.{row-long, row-other, row-there}
 use Rattle.reader.specs.Points.{pointIn, pointsIn}
 use Rattle.reader.proofs.PlacedPoints.{points-count, points-at}
-use Rattle.runner.specs.Runs.{Coded}
+use Rattle.run_loop.specs.Runs.{Coded}
 
 module _ (rows at : List ℕ) where
   -- point p of the first n

@@ -15,7 +15,8 @@ use Rattle.model.specs.Check.{check}
 use Rattle.model.specs.Run.{meetsClaims, Ran}
 use Rattle.model.specs.Safety.{Call, Lends, RunsWell, ranOn}
 use Rattle.runner.specs.declared.Ending.{Ending}
-use Rattle.runner.specs.Runs.{RunByValue, RunInPlace}
+use Rattle.run_loop.specs.Runs.{RunByValue}
+use Rattle.runner.specs.Runs.{RunInPlace}
 
 -- what an entry hands back: `run` an outcome, `run_in_place` an ending and the state behind the reference
 pub data Answer : Type 0 where

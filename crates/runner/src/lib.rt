@@ -1,23 +1,15 @@
 // The runner: a run of a listing with a budget of steps.
-mod meets;
-
-use crate::meets::meets;
 use checker::judged_listing;
 use decoded::rows::ROW_NUMBERS;
 use decoded::rows::write_row;
-use facts::sizes::STRIPE_NUMBERS;
 use model::answers::Judgement;
 use model::answers::Outcome;
 use model::answers::Refusal;
 use model::answers::Report;
 use model::limits::GREATEST_POINTS;
-use model::limits::GREATEST_SIZE;
 use model::limits::REGISTERS;
-use model::limits::TABLES;
-use model::limits::VARIABLES;
 use model::machine::State;
 use reader::places::instruction_row;
-use reader::point_facts::facts_at;
 use reader::sizes::ALL_ROWS;
 use reader::sizes::FEW_LISTING;
 use reader::sizes::FEW_ROWS;
@@ -26,28 +18,22 @@ use reader::sizes::LONG_ROWS;
 use reader::sizes::PLACE_NUMBERS;
 use reader::sizes::SHORT_LISTING;
 use reader::sizes::SHORT_ROWS;
-use steps::fetch::instruction_at;
-use steps::fetch::is_stop;
-use steps::step::step;
-use steps::values::registers_of;
-use steps::values::values_of;
+use run_loop::run_code;
+use state_tests::state_judged;
 ghost use mathlib.Core.Path.{_≡_};
-ghost use mathlib.Core.Bool.{true};
 ghost use Prim.Native.Nat.{_*_, _/_, _≤_};
-ghost use lib.ListN.{length, take};
+ghost use lib.ListN.{length};
 ghost use Rattle.model.specs.declared.answers.Judgement.the-variants.{Accepted};
 ghost use Rattle.model.specs.declared.answers.Report.the-variants.{Refused as refusedRun};
-ghost use Rattle.model.specs.Limits.{lineBytes, greatestListing, variables, registers};
-ghost use Rattle.model.specs.Lists.{every};
-ghost use Rattle.model.specs.Facts as Facts;
-ghost use Rattle.model.specs.Facts.{factsOf};
+ghost use Rattle.model.specs.Limits.{lineBytes, greatestListing};
 ghost use Rattle.model.specs.Listing.{listingOf, pointsOf};
 ghost use Rattle.model.specs.Check.{listingJudged};
 ghost use Rattle.model.specs.Machine.{lent, sizesOf};
 ghost use Rattle.model.specs.Run as Run;
-ghost use Rattle.model.specs.Run.{sizeFits};
-ghost use Rattle.reader.specs.Points.{Placed, AllPlaced, Holds, pointIn, pointsIn};
-ghost use Rattle.runner.specs.Runs.{state, outcome, Coded, CodeRoom, RunByValue};
+ghost use Rattle.reader.specs.Points.{AllPlaced, pointsIn};
+ghost use Rattle.state_tests.specs.States.{state};
+ghost use Rattle.run_loop.specs.Runs.{outcome, Coded, RunByValue};
+ghost use Rattle.runner.specs.Runs.{CodeRoom};
 
 // The code of the longest listing: a row for each point.
 const ALL_CODE: usize = GREATEST_POINTS * ROW_NUMBERS;
@@ -56,77 +42,6 @@ const ALL_CODE: usize = GREATEST_POINTS * ROW_NUMBERS;
 pub struct Ending {
     pub report: Report,
     pub steps: u32,
-}
-
-// Whether the values meet the claims of point p.
-fn claims_met<'a>(rows: &'a [u64], at: &'a [u16], p: usize, values: &'a [u32; VARIABLES]) -> bool
-    requires { ⌜ length (now values) ≡ variables ⌝ }
-    requires { ⌜ Placed (now rows) (now at) p ⌝ }
-    ensures { λ r. ⌜ r ≡ Facts.meets (now (values .entry)) (factsOf (pointIn (now (rows .entry)) (now (at .entry)) p .claims)) ⌝ }
-{
-    let mut low = [0u64; VARIABLES];
-    let mut high = [0u64; VARIABLES];
-    let mut stripes = [0u64; STRIPE_NUMBERS];
-    let n = facts_at(rows, at, p, &mut low, &mut high, &mut stripes);
-    meets(values, &low, &high, &stripes, n)
-}
-
-// Whether no table is too long.
-fn all_fit(sizes: [usize; TABLES]) -> bool
-    ensures { λ r. ⌜ r ≡ every sizeFits sizes ⌝ }
-{
-    let mut all = true;
-    let mut i = 0;
-    while i < TABLES {
-        all = all & (sizes[i] <= GREATEST_SIZE as usize);
-        i += 1;
-    }
-    all
-}
-
-// 15 to 17 for a listing of so many points, the parts of a state, and tables of these sizes.
-fn state_judged<'a>(
-    rows: &'a [u64],
-    at: &'a [u16],
-    count: usize,
-    point: usize,
-    registers: [u32; REGISTERS],
-    sizes: [usize; TABLES],
-) -> Judgement
-    requires { ⌜ Holds (now rows) (now at) count ⌝ }
-    ensures { λ r. ⌜ r ≡ Run.stateJudged (pointsIn (now (rows .entry)) (now (at .entry)) count) (state point registers) sizes ⌝ }
-{
-    if !all_fit(sizes) {
-        return Judgement::Refused(Refusal::TableLength);
-    }
-    if count <= point {
-        return Judgement::Refused(Refusal::NoSuchPoint);
-    }
-    let values = values_of(registers, words(sizes));
-    if claims_met(rows, at, point, &values) {
-        return Judgement::Accepted;
-    }
-    Judgement::Refused(Refusal::ClaimsNotMet)
-}
-
-// The sizes of tables that are not too long, as values of variables.
-fn words(sizes: [usize; TABLES]) -> [u32; TABLES]
-    requires { ⌜ every sizeFits sizes ≡ true ⌝ }
-    ensures { λ r. ⌜ r ≡ sizes ⌝ }
-{
-    [sizes[0] as u32, sizes[1] as u32]
-}
-
-// What is handed back at a point with these values after so many steps.
-fn ended(report: Report, point: usize, values: [u32; VARIABLES], steps: u32) -> Outcome
-    ensures { λ r. ⌜ r ≡ outcome report (state point (take registers values)) steps ⌝ }
-{
-    let registers = registers_of(values);
-    Outcome {
-        report,
-        state: State { point, registers },
-        steps,
-    }
 }
 
 // Gathers the rows of the first n points, in their order.
@@ -140,38 +55,6 @@ fn gather<'a>(rows: &'a [u64], at: &'a [u16], n: usize, code: &mut [u64])
         let r = instruction_row(rows, at, p);
         write_row(code, p, r);
         p += 1;
-    }
-}
-
-// The run of a listing that passes, by the code of its points, from a state that nothing turns back.
-fn run_code(
-    listing: &[u8],
-    code: &[u64],
-    start: usize,
-    registers: [u32; REGISTERS],
-    trays: &[u8],
-    results: &mut [u8],
-    budget: u32,
-) -> Outcome
-    requires { ⌜ listingJudged (listingOf (now listing)) ≡ Accepted ⌝ }
-    requires { ⌜ Coded (pointsOf (listingOf (now listing))) (now code) ⌝ }
-    requires { ⌜ Run.stateJudged (pointsOf (listingOf (now listing))) (state start registers) (sizesOf (lent (now trays) (now results))) ≡ Accepted ⌝ }
-    ensures { λ r. ⌜ RunByValue (Run.run (now (listing .entry)) (state start registers) (lent (now (trays .entry)) (now (results .entry))) budget) r (now (results .exit)) ⌝ }
-{
-    let sizes = [trays.len(), results.len()];
-    let mut values = values_of(registers, words(sizes));
-    let mut point = start;
-    let mut made: u32 = 0;
-    loop {
-        if is_stop(code, point) {
-            return ended(Report::Stopped, point, values, made);
-        }
-        if made == budget {
-            return ended(Report::Paused, point, values, made);
-        }
-        let instruction = instruction_at(code, point);
-        point = step(instruction, point, &mut values, trays, results);
-        made += 1;
     }
 }
 

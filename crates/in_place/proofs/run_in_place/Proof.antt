@@ -49,7 +49,7 @@ use Rattle.model.proofs.machine.State.Laws as S′
 use Rattle.model.proofs.answers.Outcome as O
 use Rattle.model.proofs.answers.Outcome.Laws as O′
 use Rattle.runner.specs.declared.Ending.{Ending}
-use Rattle.runner.specs.Runs.{RunByValue}
+use Rattle.run_loop.specs.Runs.{RunByValue}
 use Rattle.runner.proofs.Ending as E
 use Rattle.runner.proofs.Ending.Laws as E′
 use Rattle.runner.proofs.run as ran

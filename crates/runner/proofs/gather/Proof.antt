@@ -7,7 +7,7 @@ use Rattle.model.specs.Limits.{greatestPoints}
 use Rattle.decoded.specs.Decoded.{instructionFrom}
 use Rattle.decoded.proofs.WrittenRows.{row-long}
 use Rattle.reader.specs.Points.{pointsIn}
-use Rattle.runner.specs.Runs.{Coded}
+use Rattle.run_loop.specs.Runs.{Coded}
 use Rattle.runner.proofs.GatheredRows.{none-gathered, one-gathered}
 use Rattle.runner.proofs.gather.Statement.{statement}
 use Rattle.runner.proofs.gather.Tie as tie

@@ -2,8 +2,8 @@
 use mathlib.Core.Path.{sym, ap, _∙_}
 use Rattle.model.specs.Listing.{pointsOf}
 use Rattle.model.specs.Machine.{lent}
-use Rattle.runner.specs.Runs.{state}
-use Rattle.runner.proofs.RunLoop.{listing-refused}
+use Rattle.state_tests.specs.States.{state}
+use Rattle.run_loop.proofs.RunLoop.{listing-refused}
 use Rattle.runner.proofs.PointCount.{code-room}
 use borrow.Author.Needs.{needs}
 use Rattle.runner.proofs.run_in.Statement.{statement}

@@ -1,8 +1,8 @@
 -- A state that is turned back ends the run, one that is accepted starts it. Assumes nothing.
 use mathlib.Core.Path.{sym, _∙_}
 use Rattle.model.specs.Machine.{lent}
-use Rattle.runner.specs.Runs.{state}
-use Rattle.runner.proofs.RunLoop.{state-refused}
+use Rattle.state_tests.specs.States.{state}
+use Rattle.run_loop.proofs.RunLoop.{state-refused}
 use borrow.Author.Needs.{needs}
 use Rattle.runner.proofs.run_judged.Statement.{statement}
 use Rattle.runner.proofs.run_judged.Tie as tie

@@ -1,0 +1,4 @@
+pub mod FirstRefusal
+pub mod Owed
+pub mod LostClaims
+pub mod AccessNumbers

@@ -1,0 +1,111 @@
+// What each point owes: its own safety, then the claims of the points that its edges lead to.
+use crate::lost::edge_judged;
+use crate::safety::safety_judged;
+use decoded::decode::has_target;
+use decoded::decode::instruction_from;
+use facts::sizes::STRIPE_NUMBERS;
+use model::answers::Judgement;
+use model::answers::is_refused;
+use model::limits::VARIABLES;
+use model::machine::Edge;
+use reader::places::instruction_row;
+use reader::places::line_of;
+use reader::point_facts::facts_at;
+use reader::whole::goes_on;
+ghost use mathlib.Core.Path.{_≡_};
+ghost use Prim.Native.Nat.{_<_};
+ghost use Rattle.model.specs.Check;
+ghost use Rattle.facts.specs.StripeRows.{SizedRows};
+ghost use Rattle.facts.specs.Known.{Standing};
+ghost use Rattle.reader.specs.Points.{pointIn, pointsIn, Holds};
+
+// Everything that point p of n owes, in order. The arrays are lent to be written in; an edge changes the ends, so before the target's the facts are written again.
+fn point_judged<'a>(
+    rows: &'a [u64],
+    at: &'a [u16],
+    n: usize,
+    p: usize,
+    low: &'a mut [u64; VARIABLES],
+    high: &'a mut [u64; VARIABLES],
+    stripes: &'a mut [u64; STRIPE_NUMBERS],
+    edge_stripes: &'a mut [u64; STRIPE_NUMBERS],
+) -> Judgement
+    requires { ⌜ Holds (now rows) (now at) n × (p < n) ⌝ }
+    requires { ⌜ Standing (now stripes) 0 × SizedRows (now «edge_stripes») ⌝ }
+    ensures { λ r. ⌜ r ≡ Check.pointJudged (pointsIn (now (rows .entry)) (now (at .entry)) n) p (pointIn (now (rows .entry)) (now (at .entry)) p) ⌝ }
+    ensures { λ r. ⌜ Standing (now (stripes .exit)) 0 × SizedRows (now («edge_stripes» .exit)) ⌝ }
+{
+    let r = instruction_row(rows, at, p);
+    let i = instruction_from(r);
+    let line = line_of(at, p);
+    let m = facts_at(rows, at, p, low, high, stripes);
+    let safe = safety_judged(line, low, high, stripes, m, i);
+    if is_refused(safe) {
+        return safe;
+    }
+    let next = edge_judged(
+        rows,
+        at,
+        goes_on(i),
+        p + 1,
+        line,
+        Edge::Next,
+        i,
+        low,
+        high,
+        stripes,
+        m,
+        edge_stripes,
+    );
+    if is_refused(next) {
+        return next;
+    }
+    if !has_target(r) {
+        return Judgement::Accepted;
+    }
+    let again = facts_at(rows, at, p, low, high, stripes);
+    let t = r.fourth as usize;
+    edge_judged(
+        rows,
+        at,
+        true,
+        t,
+        line,
+        Edge::Target(t),
+        i,
+        low,
+        high,
+        stripes,
+        again,
+        edge_stripes,
+    )
+}
+
+// 12 to 14 over n points, in order.
+pub fn points_judged<'a>(rows: &'a [u64], at: &'a [u16], n: usize) -> Judgement
+    requires { ⌜ Holds (now rows) (now at) n ⌝ }
+    ensures { λ r. ⌜ r ≡ Check.pointsJudged (pointsIn (now (rows .entry)) (now (at .entry)) n) n ⌝ }
+{
+    let mut low = [0u64; VARIABLES];
+    let mut high = [0u64; VARIABLES];
+    let mut stripes = [0u64; STRIPE_NUMBERS];
+    let mut edge_stripes = [0u64; STRIPE_NUMBERS];
+    let mut p = 0;
+    while p < n {
+        let j = point_judged(
+            rows,
+            at,
+            n,
+            p,
+            &mut low,
+            &mut high,
+            &mut stripes,
+            &mut edge_stripes,
+        );
+        if is_refused(j) {
+            return j;
+        }
+        p += 1;
+    }
+    Judgement::Accepted
+}

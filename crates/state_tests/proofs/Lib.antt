@@ -1,0 +1,2 @@
+pub mod ClaimsMet
+pub mod StateJudged
