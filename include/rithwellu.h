@@ -22,7 +22,7 @@ void rithwellu_check(const uint8_t *listing, size_t len, uint64_t answer[4]);
 void rithwellu_print(const uint8_t *listing, size_t len, uint8_t line[40]);
 
 /* The claim lines of a point, as the part of the listing that holds them:
-   answer[0] the number of the refusal, 1 to 11 or 16, or 0;
+   answer[0] the number of the refusal, 1 to 11, 16 or 19, or 0;
    answer[1] its place, a line counted from 1, or 0; none of them has a second place;
    answer[2] where the part begins, in bytes from the start of the listing;
    answer[3] how many bytes it has, 0 where the point has no claims.
@@ -35,8 +35,8 @@ enum { RITHWELLU_BLANK = 0, RITHWELLU_NUMBER = 1, RITHWELLU_NEGATIVE = 2 };
 /* Sets one line of the listing, counted from 1, to the word of word_len bytes at word and the fields F1 to F6.
    kinds[j] says what a field holds; any other kind than the three above is a field of wrong shape.
    numbers[j] is its number, of a negative one without its minus; that of a blank is not looked at.
-   answer[0] the number of the refusal, 3, 4, 5 or 18 in this order, or 0 where the line was set;
-   answer[1] for 3, 4 and 5 the line as given, else 0.
+   answer[0] the number of the refusal, 3, 4, 5, 19 or 18 in this order, or 0 where the line was set;
+   answer[1] for 3, 4, 5 and 19 the line as given, else 0.
    Every other byte stays, and a call that is turned back changes none. The listing may have any length; line is from
    1 to 1,638 and ends within the listing, or it is 18. The listing must not overlap what else is lent. */
 void rithwellu_set_line(const uint8_t *word, size_t word_len, const uint8_t kinds[6], const uint64_t numbers[6],

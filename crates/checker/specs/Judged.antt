@@ -1,4 +1,4 @@
--- A listing that the code has read and judged by 1 to 14.
+-- A listing that the code has read and judged by 1 to 14 and 19.
 use mathlib.Core.Path.{_≡_}
 use mathlib.Core.List.{List}
 use Prim.Native.Nat.{ℕ}

@@ -22,7 +22,7 @@ ghost use Rattle.model.specs.Output;
 ghost use Rattle.reader.specs.Listing.{Room};
 ghost use Rattle.checker.specs.Judged.{Judged};
 
-// A listing read once and judged by 1 to 14. Its lines are kept in the rows, its points in their places.
+// A listing read once and judged by 1 to 14 and 19. Its lines are kept in the rows, its points in their places.
 pub fn judged_listing(listing: &[u8], rows: &mut [u64], at: &mut [u16]) -> Listing
     requires { ⌜ Room (now listing) (now rows) (now at) ⌝ }
     ensures { λ r. ⌜ Judged (now (listing .entry)) r (now (rows .exit)) (now (at .exit)) ⌝ }

@@ -41,7 +41,7 @@ fn no_part(r: Refusal) -> ClaimPart
     }
 }
 
-// The claim lines of a point by their offset in the listing and their length in bytes, with what turns the call back: 1 to 11, then 16.
+// The claim lines of a point by their offset in the listing and their length in bytes, with what turns the call back: 1 to 11 and 19, then 16.
 pub fn claim_part(listing: &[u8], point: usize) -> ClaimPart
     ensures { λ r. ⌜ r ≡ claimPart (now (listing .entry)) point ⌝ }
 {

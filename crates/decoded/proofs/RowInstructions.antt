@@ -4,16 +4,16 @@ use mathlib.Core.Bool.{Bool, true, false, not, cond, false≢true}
 use mathlib.Core.List.{List, [], _∷_}
 use Prim.Native.Nat.{ℕ, _%_}
 use lib.Dec.{eqb}
-use borrow.Author.Tests.{ne-eqb}
+use borrow.Author.Tests.{eqb-true, ne-eqb}
 use Rattle.model.specs.Limits as Limits
 use Rattle.model.specs.declared.machine.Instruction.{Instruction}
-use Rattle.model.specs.declared.machine.Instruction.the-variants.{Stop, Setc, Copy, Addw, Subw, Mulw, Divf, Load, Stor, Jump, Bltu, Bequ}
+use Rattle.model.specs.declared.machine.Instruction.the-variants.{Stop, Setc, Copy, Addw, Subw, Mulw, Divf, Load, Stor, Jump, Bltu, Bequ, Divm}
 use Rattle.model.specs.Lines.{widthFrom, tableFrom}
 use Rattle.model.specs.Lists.{isEmpty}
 use Rattle.model.specs.Instructions.{targets, hasTarget, isStop}
 use Rattle.model.proofs.Tests.{cond-cases}
 use Rattle.decoded.specs.declared.rows.Row.{Row}
-use Rattle.decoded.specs.Kinds.{STOP, SETC, COPY, ADDW, SUBW, MULW, DIVF, LOAD, STOR, JUMP, BLTU}
+use Rattle.decoded.specs.Kinds.{STOP, SETC, COPY, ADDW, SUBW, MULW, DIVF, LOAD, STOR, JUMP, BLTU, DIVM}
 use Rattle.decoded.specs.Decoded.{operandOf, branchFrom, accessFrom, arithmeticFrom, instructionFrom}
 
 -- a choice of two instructions that are no STOP
@@ -71,11 +71,17 @@ module _ (r : Row) where
   pub bltu-row : r .kind ≡ BLTU → branchFrom r ≡ Bltu (r .second) (r .fourth) (operandOf r)
   bltu-row e = rw e
 
-  pub bequ-row : (r .kind ≡ JUMP → ⊥) → (r .kind ≡ BLTU → ⊥) → branchFrom r ≡ Bequ (r .second) (r .fourth) (operandOf r)
-  bequ-row a b = rw (ne-eqb _ _ a, ne-eqb _ _ b)
+  pub divm-row : r .kind ≡ DIVM → branchFrom r ≡ Divm (r .first) (r .second) (r .third) (operandOf r)
+  divm-row e = rw e
+
+  pub bequ-row : (r .kind ≡ JUMP → ⊥) → (r .kind ≡ BLTU → ⊥) → (r .kind ≡ DIVM → ⊥) → branchFrom r ≡ Bequ (r .second) (r .fourth) (operandOf r)
+  bequ-row a b c = rw (ne-eqb _ _ a, ne-eqb _ _ b, ne-eqb _ _ c)
 
   branch-goes : isStop (branchFrom r) ≡ false
-  branch-goes = no-stop (eqb (r .kind) JUMP) (Jump _) _ refl (no-stop (eqb (r .kind) BLTU) (Bltu _ _ _) (Bequ _ _ _) refl refl)
+  branch-goes =
+      no-stop (eqb (r .kind) JUMP) (Jump _) _ refl
+      (no-stop (eqb (r .kind) BLTU) (Bltu _ _ _) _ refl
+      (no-stop (eqb (r .kind) DIVM) (Divm _ _ _ _) (Bequ _ _ _) refl refl))
 
   access-goes : isStop (accessFrom r) ≡ false
   access-goes = no-stop (eqb (r .kind) LOAD) (Load _ _ _ _ _ _) _ refl (no-stop (eqb (r .kind) STOR) (Stor _ _ _ _ _) (branchFrom r) refl branch-goes)
@@ -103,7 +109,8 @@ module _ (r : Row) where
   named-branch : Named (branchFrom r)
   named-branch =
       cond-cases Named (eqb (r .kind) JUMP) (Jump _) _ (λ z e. refl)
-      (λ z. cond-cases Named (eqb (r .kind) BLTU) (Bltu _ _ _) (Bequ _ _ _) (λ z e. refl) (λ z e. refl))
+      (λ z. cond-cases Named (eqb (r .kind) BLTU) (Bltu _ _ _) _ (λ z e. refl)
+      (λ z. cond-cases Named (eqb (r .kind) DIVM) (Divm _ _ _ _) (Bequ _ _ _) (λ z e. absurd (false≢true e)) (λ z e. refl)))
 
   named-access : Named (accessFrom r)
   named-access =
@@ -124,21 +131,25 @@ module _ (r : Row) where
       (λ z. cond-cases Named (eqb (r .kind) SETC) (Setc _ _) _ (λ z e. absurd (false≢true e))
       (λ z. cond-cases Named (eqb (r .kind) COPY) (Copy _ _) (arithmeticFrom r) (λ z e. absurd (false≢true e)) (λ z. named-arithmetic)))
 
-  branch-has : hasTarget (branchFrom r) ≡ true
-  branch-has =
+  branch-has : (r .kind ≡ DIVM → ⊥) → hasTarget (branchFrom r) ≡ true
+  branch-has n =
       cond-cases (λ (i : Instruction). hasTarget i ≡ true) (eqb (r .kind) JUMP) (Jump _) _ (λ z. refl)
-      (λ z. cond-cases (λ (i : Instruction). hasTarget i ≡ true) (eqb (r .kind) BLTU) (Bltu _ _ _) (Bequ _ _ _) (λ z. refl) (λ z. refl))
+      (λ z. cond-cases (λ (i : Instruction). hasTarget i ≡ true) (eqb (r .kind) BLTU) (Bltu _ _ _) _ (λ z. refl)
+      (λ z. cond-cases (λ (i : Instruction). hasTarget i ≡ true) (eqb (r .kind) DIVM) (Divm _ _ _ _) (Bequ _ _ _) (λ z. absurd (n (eqb-true _ _ z))) (λ z. refl)))
 
-  -- the kinds from JUMP on, which are told by being none of the others
-  pub has-target : (r .kind ≡ STOP → ⊥) → (r .kind ≡ SETC → ⊥) → (r .kind ≡ COPY → ⊥) → (r .kind ≡ ADDW → ⊥) → (r .kind ≡ SUBW → ⊥) → (r .kind ≡ MULW → ⊥) → (r .kind ≡ DIVF → ⊥) → (r .kind ≡ LOAD → ⊥) → (r .kind ≡ STOR → ⊥)
+  -- the kinds of jumps and branches, which are told by being none of the others
+  pub has-target : (r .kind ≡ STOP → ⊥) → (r .kind ≡ SETC → ⊥) → (r .kind ≡ COPY → ⊥) → (r .kind ≡ ADDW → ⊥) → (r .kind ≡ SUBW → ⊥) → (r .kind ≡ MULW → ⊥) → (r .kind ≡ DIVF → ⊥) → (r .kind ≡ LOAD → ⊥) → (r .kind ≡ STOR → ⊥) → (r .kind ≡ DIVM → ⊥)
       → hasTarget (instructionFrom r) ≡ true
-  has-target a b c d e f g h i = ap hasTarget (arithmetic-row a b c ∙ access-row d e f g ∙ branch-row h i) ∙ branch-has
+  has-target a b c d e f g h i j = ap hasTarget (arithmetic-row a b c ∙ access-row d e f g ∙ branch-row h i) ∙ branch-has j
 
   pub arithmetic-kind : (k : ℕ) (x : Instruction) → r .kind ≡ k → (k ≡ STOP → ⊥) → (k ≡ SETC → ⊥) → (k ≡ COPY → ⊥) → arithmeticFrom r ≡ x → instructionFrom r ≡ x
   arithmetic-kind k x e a b c f = arithmetic-row (λ z. a (sym e ∙ z)) (λ z. b (sym e ∙ z)) (λ z. c (sym e ∙ z)) ∙ f
 
   pub access-kind : (k : ℕ) (x : Instruction) → r .kind ≡ k → (k ≡ STOP → ⊥) → (k ≡ SETC → ⊥) → (k ≡ COPY → ⊥) → (k ≡ ADDW → ⊥) → (k ≡ SUBW → ⊥) → (k ≡ MULW → ⊥) → (k ≡ DIVF → ⊥) → accessFrom r ≡ x → instructionFrom r ≡ x
   access-kind k x e a b c d u f g h = arithmetic-kind k x e a b c (access-row (λ z. d (sym e ∙ z)) (λ z. u (sym e ∙ z)) (λ z. f (sym e ∙ z)) (λ z. g (sym e ∙ z)) ∙ h)
+
+  pub branch-kind : (k : ℕ) (x : Instruction) → r .kind ≡ k → (k ≡ STOP → ⊥) → (k ≡ SETC → ⊥) → (k ≡ COPY → ⊥) → (k ≡ ADDW → ⊥) → (k ≡ SUBW → ⊥) → (k ≡ MULW → ⊥) → (k ≡ DIVF → ⊥) → (k ≡ LOAD → ⊥) → (k ≡ STOR → ⊥) → branchFrom r ≡ x → instructionFrom r ≡ x
+  branch-kind k x e a b c d u f g l s h = access-kind k x e a b c d u f g (branch-row (λ z. l (sym e ∙ z)) (λ z. s (sym e ∙ z)) ∙ h)
 
 -- a list that has no element
 pub none-named : (l : List ℕ) → not (isEmpty l) ≡ false → l ≡ []

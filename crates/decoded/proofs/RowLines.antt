@@ -9,14 +9,14 @@ use Rattle.model.specs.Limits as Limits
 use Rattle.model.specs.declared.text.Field.{Field}
 use Rattle.model.specs.declared.text.Field.the-variants.{Blank, Number, Negative, Misshapen}
 use Rattle.model.specs.declared.text.Word.{Word}
-use Rattle.model.specs.declared.text.Word.the-variants.{Stop as STOP, Setc as SETC, Copy as COPY, Addw as ADDW, Subw as SUBW, Mulw as MULW, Divf as DIVF, Load as LOAD, Stor as STOR, Jump as JUMP, Bltu as BLTU, Bequ as BEQU, Leas as LEAS, Most as MOST, Strp as STRP}
+use Rattle.model.specs.declared.text.Word.the-variants.{Stop as STOP, Setc as SETC, Copy as COPY, Addw as ADDW, Subw as SUBW, Mulw as MULW, Divf as DIVF, Load as LOAD, Stor as STOR, Jump as JUMP, Bltu as BLTU, Bequ as BEQU, Leas as LEAS, Most as MOST, Strp as STRP, Divm as DIVM}
 use Rattle.model.specs.declared.text.Content.{Content}
 use Rattle.model.specs.declared.text.Content.the-variants.{Target, Scale, Offset, Number as aNumber, Operand as anOperand, Claimed}
 use Rattle.model.specs.declared.text.Kind.{Kind}
 use Rattle.model.specs.declared.text.Kind.the-variants.{Plain}
 use Rattle.model.specs.declared.machine.Operand.the-variants.{Variable as variable, Number as number}
 use Rattle.model.specs.declared.machine.Instruction.{Instruction}
-use Rattle.model.specs.declared.machine.Instruction.the-variants.{Setc, Addw, Subw, Mulw, Divf, Jump}
+use Rattle.model.specs.declared.machine.Instruction.the-variants.{Setc, Addw, Subw, Mulw, Divf, Jump, Divm}
 use Rattle.model.specs.declared.claims.Claim.the-variants.{Leas, Most, Strp}
 use Rattle.model.specs.declared.claims.Line.the-variants.{Refused as refusedLine, Claim as claimLine, Instruction as instructionLine}
 use Rattle.model.specs.declared.answers.Refusal.the-variants.{ListingLength}
@@ -24,7 +24,7 @@ use Rattle.model.specs.Limits.{MAX}
 use Rattle.model.specs.Text.{valueIn}
 use Rattle.model.specs.Words.{fieldsOf, shaped}
 use Rattle.model.specs.Lines as Lines
-use Rattle.model.specs.Lines.{fieldAt, F1, F2, F3, F4, F5, F6, kindAt, inShape, inLimits, operandFrom, variableOrBlank, plusIn}
+use Rattle.model.specs.Lines.{fieldAt, F1, F2, F3, F4, F5, F6, kindAt, inShape, inLimits, registersDiffer, operandFrom, variableOrBlank, plusIn}
 use Rattle.model.specs.Limited.{OperandLimited}
 use Rattle.model.proofs.Limited.{line-limited}
 use Rattle.model.proofs.Tests.{every-below}
@@ -75,28 +75,29 @@ module _ (fs : List Field) where
   operand-is : (w : Word) → inShape w fs ≡ true → kindAt w 5 ≡ Plain anOperand → OperandLimited (operandFrom (F5 fs) (F6 fs)) → operandIn (F5 fs) (plusIn (fieldAt fs 5)) ≡ operandFrom (F5 fs) (F6 fs)
   operand-is w e k h = ap (operandIn (F5 fs)) (sixth-is w e anOperand k) ∙ operand-same (F5 fs) (F6 fs) h
 
-  pub line-same : (w : Word) → inShape w fs ≡ true → inLimits w fs ≡ true → lineOfRow (rowOf w fs) ≡ Lines.lineFrom w fs
+  pub line-same : (w : Word) → inShape w fs ≡ true → inLimits w fs ≡ true → registersDiffer w fs ≡ true → lineOfRow (rowOf w fs) ≡ Lines.lineFrom w fs
   unfolding lineOfRow instructionFrom fieldsOf
-  line-same STOP s l = refl
-  line-same SETC s l = ap (λ (n : ℕ). instructionLine (Setc (F1 fs) n)) (ap (λ (n : ℕ). n % Limits.modulus) (sixth-is SETC s aNumber refl) ∙ word-same (F6 fs) (line-limited fs SETC l .1))
-  line-same COPY s l = refl
-  line-same ADDW s l = ap (λ (o : _). instructionLine (Addw (F1 fs) (F2 fs) o)) (operand-is ADDW s refl (line-limited fs ADDW l .operand))
-  line-same SUBW s l = ap (λ (o : _). instructionLine (Subw (F1 fs) (F2 fs) o)) (operand-is SUBW s refl (line-limited fs SUBW l .operand))
-  line-same MULW s l = ap (λ (o : _). instructionLine (Mulw (F1 fs) (F2 fs) o)) (operand-is MULW s refl (line-limited fs MULW l .operand))
-  line-same DIVF s l = ap (λ (o : _). instructionLine (Divf (F1 fs) (F2 fs) o)) (operand-is DIVF s refl (line-limited fs DIVF l .operand))
-  line-same LOAD s l = rw (fourth-is LOAD s Scale refl, sixth-is LOAD s Offset refl)
-  line-same STOR s l = rw (fourth-is STOR s Scale refl, sixth-is STOR s Offset refl)
-  line-same JUMP s l = ap (λ (t : ℕ). instructionLine (Jump t)) (fourth-is JUMP s Target refl)
-  line-same BLTU s l = rw (fourth-is BLTU s Target refl, operand-is BLTU s refl (line-limited fs BLTU l .operand))
-  line-same BEQU s l = rw (fourth-is BEQU s Target refl, operand-is BEQU s refl (line-limited fs BEQU l .operand))
-  line-same LEAS s l = ap (λ (n : ℕ). claimLine (Leas (F1 fs) n)) (sixth-is LEAS s Claimed refl)
-  line-same MOST s l = ap (λ (n : ℕ). claimLine (Most (F1 fs) n)) (sixth-is MOST s Claimed refl)
-  line-same STRP s l =
-      let h = line-limited fs STRP l in
+  line-same STOP s l d = refl
+  line-same SETC s l d = ap (λ (n : ℕ). instructionLine (Setc (F1 fs) n)) (ap (λ (n : ℕ). n % Limits.modulus) (sixth-is SETC s aNumber refl) ∙ word-same (F6 fs) (line-limited fs SETC l d .1))
+  line-same COPY s l d = refl
+  line-same ADDW s l d = ap (λ (o : _). instructionLine (Addw (F1 fs) (F2 fs) o)) (operand-is ADDW s refl (line-limited fs ADDW l d .operand))
+  line-same SUBW s l d = ap (λ (o : _). instructionLine (Subw (F1 fs) (F2 fs) o)) (operand-is SUBW s refl (line-limited fs SUBW l d .operand))
+  line-same MULW s l d = ap (λ (o : _). instructionLine (Mulw (F1 fs) (F2 fs) o)) (operand-is MULW s refl (line-limited fs MULW l d .operand))
+  line-same DIVF s l d = ap (λ (o : _). instructionLine (Divf (F1 fs) (F2 fs) o)) (operand-is DIVF s refl (line-limited fs DIVF l d .operand))
+  line-same LOAD s l d = rw (fourth-is LOAD s Scale refl, sixth-is LOAD s Offset refl)
+  line-same STOR s l d = rw (fourth-is STOR s Scale refl, sixth-is STOR s Offset refl)
+  line-same JUMP s l d = ap (λ (t : ℕ). instructionLine (Jump t)) (fourth-is JUMP s Target refl)
+  line-same BLTU s l d = rw (fourth-is BLTU s Target refl, operand-is BLTU s refl (line-limited fs BLTU l d .operand))
+  line-same BEQU s l d = rw (fourth-is BEQU s Target refl, operand-is BEQU s refl (line-limited fs BEQU l d .operand))
+  line-same LEAS s l d = ap (λ (n : ℕ). claimLine (Leas (F1 fs) n)) (sixth-is LEAS s Claimed refl)
+  line-same MOST s l d = ap (λ (n : ℕ). claimLine (Most (F1 fs) n)) (sixth-is MOST s Claimed refl)
+  line-same STRP s l d =
+      let h = line-limited fs STRP l d in
       let x = h .x in
       let y = h .y in
       let z = h .z in
       rw (byte-same (F1 fs) (omega arith), byte-same (F2 fs) (h .scale), byte-same (F3 fs) (omega arith), byte-same (variableOrBlank (fieldAt fs 3)) (omega arith)) refl
+  line-same DIVM s l d = ap (λ (o : _). instructionLine (Divm (F1 fs) (F2 fs) (F3 fs) o)) (operand-is DIVM s refl (line-limited fs DIVM l d .arithmetic .operand))
 
 -- the row of a line that is turned back
 pub refused-same : lineOfRow refusedRow ≡ refusedLine ListingLength

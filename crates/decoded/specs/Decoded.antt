@@ -7,7 +7,7 @@ use Rattle.model.specs.Limits as Limits
 use Rattle.model.specs.declared.machine.Operand.{Operand}
 use Rattle.model.specs.declared.machine.Operand.the-variants.{Variable as variable, Number as number}
 use Rattle.model.specs.declared.machine.Instruction.{Instruction}
-use Rattle.model.specs.declared.machine.Instruction.the-variants.{Stop, Setc, Copy, Addw, Subw, Mulw, Divf, Load, Stor, Jump, Bltu, Bequ}
+use Rattle.model.specs.declared.machine.Instruction.the-variants.{Stop, Setc, Copy, Addw, Subw, Mulw, Divf, Load, Stor, Jump, Bltu, Bequ, Divm}
 use Rattle.model.specs.declared.claims.Stripe.{Stripe}
 use Rattle.model.specs.declared.claims.Claim.{Claim}
 use Rattle.model.specs.declared.claims.Claim.the-variants.{Leas, Most, Strp}
@@ -17,7 +17,7 @@ use Rattle.model.specs.declared.answers.Refusal.the-variants.{ListingLength}
 use Rattle.model.specs.Lines.{widthFrom, tableFrom}
 use Rattle.decoded.specs.declared.rows.Row.{Row}
 use Rattle.decoded.specs.Rows.{rowAt}
-use Rattle.decoded.specs.Kinds.{REFUSED, STOP, SETC, COPY, ADDW, SUBW, MULW, DIVF, LOAD, STOR, JUMP, BLTU, LEAS, MOST, STRP}
+use Rattle.decoded.specs.Kinds.{REFUSED, STOP, SETC, COPY, ADDW, SUBW, MULW, DIVF, LOAD, STOR, JUMP, BLTU, LEAS, MOST, STRP, DIVM}
 
 -- the operand of a choice and a number
 abbrev pub operandIn : ℕ → ℕ → Operand
@@ -31,7 +31,8 @@ operandOf r = operandIn (r .fifth) (r .sixth)
 abbrev pub branchFrom : Row → Instruction
 branchFrom r =
     cond (eqb (r .kind) JUMP) (Jump (r .fourth))
-    (cond (eqb (r .kind) BLTU) (Bltu (r .second) (r .fourth) (operandOf r)) (Bequ (r .second) (r .fourth) (operandOf r)))
+    (cond (eqb (r .kind) BLTU) (Bltu (r .second) (r .fourth) (operandOf r))
+    (cond (eqb (r .kind) DIVM) (Divm (r .first) (r .second) (r .third) (operandOf r)) (Bequ (r .second) (r .fourth) (operandOf r))))
 
 -- the instruction of a row, from LOAD on
 abbrev pub accessFrom : Row → Instruction

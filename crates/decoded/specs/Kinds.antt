@@ -64,3 +64,7 @@ MOST = 14
 -- a line of the word STRP
 abbrev pub STRP : ℕ
 STRP = 15
+
+-- a line of the word DIVM
+abbrev pub DIVM : ℕ
+DIVM = 16

@@ -3,6 +3,7 @@ use crate::kinds::ADDW;
 use crate::kinds::BLTU;
 use crate::kinds::COPY;
 use crate::kinds::DIVF;
+use crate::kinds::DIVM;
 use crate::kinds::JUMP;
 use crate::kinds::LEAS;
 use crate::kinds::LOAD;
@@ -102,6 +103,14 @@ fn branch_from(r: Row) -> Instruction
     let o = operand_in(r.fifth, r.sixth);
     if r.kind == BLTU {
         return Instruction::Bltu { i, t, o };
+    }
+    if r.kind == DIVM {
+        return Instruction::Divm {
+            q: r.first as usize,
+            i,
+            r: r.third as usize,
+            o,
+        };
     }
     Instruction::Bequ { i, t, o }
 }
@@ -242,6 +251,9 @@ pub fn has_target(r: Row) -> bool
         return false;
     }
     if r.kind == STOR {
+        return false;
+    }
+    if r.kind == DIVM {
         return false;
     }
     true

@@ -4,6 +4,7 @@ use crate::kinds::BEQU;
 use crate::kinds::BLTU;
 use crate::kinds::COPY;
 use crate::kinds::DIVF;
+use crate::kinds::DIVM;
 use crate::kinds::JUMP;
 use crate::kinds::LEAS;
 use crate::kinds::LOAD;
@@ -44,6 +45,7 @@ fn kind_of(w: Word) -> u64
         Word::Leas => LEAS,
         Word::Most => MOST,
         Word::Strp => STRP,
+        Word::Divm => DIVM,
     }
 }
 

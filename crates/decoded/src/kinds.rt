@@ -30,3 +30,5 @@ pub const LEAS: u64 = 13;
 pub const MOST: u64 = 14;
 
 pub const STRP: u64 = 15;
+
+pub const DIVM: u64 = 16;

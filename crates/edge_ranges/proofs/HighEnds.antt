@@ -15,7 +15,7 @@ use Rattle.model.specs.declared.machine.Width.the-variants.{One, Two, Four}
 use Rattle.model.specs.declared.machine.Operand.{Operand}
 use Rattle.model.specs.declared.machine.Operand.the-variants.{Variable, Number}
 use Rattle.model.specs.declared.machine.Instruction.{Instruction}
-use Rattle.model.specs.declared.machine.Instruction.the-variants.{Stop, Setc, Copy, Addw, Subw, Mulw, Divf, Load, Stor, Jump, Bltu, Bequ}
+use Rattle.model.specs.declared.machine.Instruction.the-variants.{Stop, Setc, Copy, Addw, Subw, Mulw, Divf, Load, Stor, Jump, Bltu, Bequ, Divm}
 use Rattle.model.specs.declared.machine.Edge.{Edge}
 use Rattle.model.specs.declared.machine.Edge.the-variants.{Next, Target}
 use Rattle.model.specs.declared.claims.Range.{Range}
@@ -23,9 +23,9 @@ use Rattle.model.specs.declared.claims.Stripe.{Stripe}
 use Rattle.model.specs.Limits.{MAX}
 use Rattle.model.specs.Facts.{between, exactly, registerRange, rangeOf, hi}
 use Rattle.model.specs.Machine.{bytesOf}
-use Rattle.model.specs.Transfer.{nothing, operandRange, sumFits, sumRange, differenceFits, differenceRange, productFits, productRange, nearestRange, below, atLeast, atMost, overlap, without, hasOneValue, changed, operandChanged, rangesAlong, stripesAlong}
+use Rattle.model.specs.Transfer.{nothing, operandRange, sumFits, sumRange, differenceFits, differenceRange, productFits, productRange, nearestRange, quotientRange, remainderRange, below, atLeast, atMost, overlap, without, hasOneValue, changed, operandChanged, rangesAlong, stripesAlong}
 use Rattle.model.proofs.Tests.{cond-cases}
-use Rattle.model.proofs.Values.{nearest-small}
+use Rattle.model.proofs.Values.{div-small, nearest-small}
 use Rattle.model.specs.Limited.{Limited}
 use Rattle.facts.specs.Known.{High}
 use Rattle.edge_ranges.specs.Branches.{orderedRanges, matchedRanges, orderedStripes, matchedStripes}
@@ -82,6 +82,11 @@ module _ (r q : Range) (h : Top r) where
       cond-cases Top (eqb (q .hi) 0) nothing _ (λ e. omega arith)
       (λ e. nearest-small (r .hi) (max (q .lo) 1) MAX (le-max-right (q .lo) 1) h)
 
+  quotient-top : Top (quotientRange r q)
+  quotient-top =
+      cond-cases Top (eqb (q .hi) 0) nothing _ (λ e. omega arith)
+      (λ e. div-small (r .hi) (max (q .lo) 1) MAX (le-max-right (q .lo) 1) h)
+
 loaded-top : (w : Width) → 256 ^ bytesOf w - 1 ≤ MAX
 loaded-top One = omega arith
 loaded-top Two = omega arith
@@ -121,3 +126,7 @@ along-high Next (Bequ i t o) rs l h =
     (λ e. changed-high i (without (operandRange rs o .lo)) rs (without-top (operandRange rs o .lo)) h) (λ e. h)
 along-high (Target u) (Bequ i t o) rs l h =
     operand-high o (overlap (rangeOf rs i)) _ (λ r k. omega arith) (changed-high i (overlap (operandRange rs o)) rs (λ r k. omega arith) h)
+along-high e (Divm q i r o) rs t h =
+    high-set (set rs q (quotientRange (rangeOf rs i) (operandRange rs o))) r _
+    (high-set rs q _ h (quotient-top (rangeOf rs i) (operandRange rs o) (h i)))
+    (below-top (operandRange rs o .hi) (between 0 (rangeOf rs i .hi)) (h i))

@@ -1,3 +1,2 @@
 pub mod Changes
-pub mod Pairs
 pub mod Branches

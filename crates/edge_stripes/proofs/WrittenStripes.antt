@@ -1,6 +1,6 @@
 -- Rows written one after another, and what a plan keeps of one stripe more. Assumes nothing.
 use mathlib.Core.Path.{_≡_, refl, ap, sym, _∙_}
-use mathlib.Core.Bool.{Bool, true, false, not, cond}
+use mathlib.Core.Bool.{Bool, true, false, not, _||_, cond, false≢true}
 use mathlib.Core.List.{List, [], _∷_, _++_, map, append-nil, append-assoc}
 use Prim.Native.Nat.{ℕ, _+_, _*_, _<_}
 use native.Mathlib.Omega.{arith}
@@ -10,7 +10,7 @@ use Rattle.model.specs.Lists.{kept}
 use Rattle.model.specs.Transfer.{names, dropped, shifted, boundInLimits, allShifted}
 use Rattle.facts.specs.StripeRows.{SizedRows, stripeAt}
 use Rattle.edge_stripes.specs.declared.KeptStripes.{KeptStripes}
-use Rattle.edge_stripes.specs.declared.KeptStripes.the-variants.{All, Without, Shifted}
+use Rattle.edge_stripes.specs.declared.KeptStripes.the-variants.{All, Without, Shifted, WithoutBoth}
 use Rattle.edge_stripes.specs.declared.AddedStripes.{AddedStripes}
 use Rattle.edge_stripes.specs.declared.AddedStripes.the-variants.{Nothing, One, Two}
 use Rattle.facts.specs.Known.{stripesOf, Small, Standing}
@@ -37,6 +37,22 @@ module _ (s : Stripe) where
   pub unnamed-one : (d : ℕ) → names d s ≡ false → dropped d (s ∷ []) ≡ s ∷ []
   unfolding kept
   unnamed-one d e = ap (λ (b : Bool). cond (not b) (s ∷ []) []) e
+
+  pub named-either : (d e : ℕ) → (names d s || names e s) ≡ true → dropped e (dropped d (s ∷ [])) ≡ []
+  unfolding kept
+  named-either d e h = go (names d s) h
+    where
+      go : (b : Bool) → (b || names e s) ≡ true → dropped e (cond (not b) (s ∷ []) []) ≡ []
+      go true h = refl
+      go false h = named-one e h
+
+  pub unnamed-either : (d e : ℕ) → (names d s || names e s) ≡ false → dropped e (dropped d (s ∷ [])) ≡ s ∷ []
+  unfolding kept
+  unnamed-either d e h = go (names d s) h
+    where
+      go : (b : Bool) → (b || names e s) ≡ false → dropped e (cond (not b) (s ∷ []) []) ≡ s ∷ []
+      go true h = absurd (false≢true (sym h))
+      go false h = unnamed-one e h
 
   module _ (d up down : ℕ) (t : Stripe) (e : t ≡ shifted d up down s) where
     pub shifted-one : boundInLimits t ≡ true → allShifted d up down (s ∷ []) ≡ t ∷ []
@@ -65,6 +81,7 @@ keeps-both : (k : KeptStripes) (xs ys : List Stripe) → keptOf k (xs ++ ys) ≡
 keeps-both All xs ys = refl
 keeps-both (Without d) xs ys = kept-both _ xs ys
 keeps-both (Shifted d up down) xs ys = ap (kept boundInLimits) (map-both (shifted d up down) xs ys) ∙ kept-both boundInLimits (map (shifted d up down) xs) (map (shifted d up down) ys)
+keeps-both (WithoutBoth d e) xs ys = ap (dropped e) (kept-both _ xs ys) ∙ kept-both _ (dropped d xs) (dropped d ys)
 
 -- of the first stripes
 module _ (k : KeptStripes) (stripes : List ℕ) where
@@ -76,6 +93,7 @@ module _ (k : KeptStripes) (stripes : List ℕ) where
       go All = refl
       go (Without d) = refl
       go (Shifted d up down) = refl
+      go (WithoutBoth d e) = refl
 
   pub kept-none : (new : List ℕ) (m : ℕ) → SizedRows new → Extends new m new m (keptOf k (stripesOf stripes 0))
   kept-none new m sized = rw none-kept (extends-none new m sized)

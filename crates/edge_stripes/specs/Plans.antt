@@ -1,4 +1,4 @@
--- What an edge does to the stripes: some are added in front, and of those that stand all are kept, or those without d, or all are shifted.
+-- What an edge does to the stripes: some are added in front, and of those that stand all are kept, or those without one or two registers, or all are shifted.
 use mathlib.Core.Path.{_≡_}
 use mathlib.Core.List.{List, _∷_, _++_}
 use Prim.Native.Nat.{ℕ, _≤_}
@@ -7,7 +7,7 @@ use Rattle.model.specs.Limits.{MAX, greatestBound}
 use Rattle.model.specs.Transfer.{dropped, allShifted}
 use Rattle.facts.specs.StripeRows.{SizedRows}
 use Rattle.edge_stripes.specs.declared.KeptStripes.{KeptStripes}
-use Rattle.edge_stripes.specs.declared.KeptStripes.the-variants.{All, Without, Shifted}
+use Rattle.edge_stripes.specs.declared.KeptStripes.the-variants.{All, Without, Shifted, WithoutBoth}
 use Rattle.edge_stripes.specs.declared.AddedStripes.{AddedStripes}
 use Rattle.edge_stripes.specs.declared.AddedStripes.the-variants.{Nothing, One, Two}
 use Rattle.edge_stripes.specs.declared.Plan.{Plan}
@@ -18,6 +18,7 @@ abbrev pub keptOf : KeptStripes → List Stripe → List Stripe
 keptOf All ss = ss
 keptOf (Without d) ss = dropped d ss
 keptOf (Shifted d up down) ss = allShifted d up down ss
+keptOf (WithoutBoth d e) ss = dropped e (dropped d ss)
 
 -- what is added, in front of others
 abbrev pub addedTo : AddedStripes → List Stripe → List Stripe
@@ -30,6 +31,7 @@ abbrev pub ShiftLimited : KeptStripes → Type 0
 ShiftLimited All = Unit {0}
 ShiftLimited (Without d) = Unit {0}
 ShiftLimited (Shifted d up down) = (up ≤ MAX) × (down ≤ MAX)
+ShiftLimited (WithoutBoth d e) = Unit {0}
 
 -- what is added has bounds within the limits
 abbrev pub AddedLimited : AddedStripes → Type 0

@@ -1,8 +1,5 @@
 // What an edge does to the stripes, a function for each rule, and how that is carried out.
-use edge_ranges::difference_fits;
-use edge_ranges::product_fits;
 use edge_ranges::ranges_at;
-use edge_ranges::sum_fits;
 use facts::sizes::STRIPE_NUMBERS;
 use facts::sizes::scaled;
 use facts::stripe_rows::write_stripe;
@@ -14,8 +11,11 @@ use model::limits::VARIABLES;
 use model::machine::Edge;
 use model::machine::Instruction;
 use model::machine::Operand;
+use range_rules::difference_fits;
+use range_rules::product_fits;
+use range_rules::sum_fits;
 ghost use mathlib.Core.Path.{_≡_};
-ghost use mathlib.Core.Bool.{cond};
+ghost use mathlib.Core.Bool.{_||_, cond};
 ghost use mathlib.Core.List.{List, [], _∷_};
 ghost use Prim.Native.Nat.{_+_, _<_, _≤_};
 ghost use lib.Dec.{eqb};
@@ -32,11 +32,13 @@ ghost use Rattle.facts.specs.Known.{rangesOf, stripesOf, Small, Bytes, Ends, St
 ghost use Rattle.edge_stripes.specs.Plans.{keptOf, addedTo, ShiftLimited, AddedLimited, Does, Extends};
 ghost use Rattle.edge_ranges.specs.Branches.{orderedStripes, matchedStripes};
 
-// What is kept of the stripes that stand: all, those that do not name d, or all once d has become d + up - down.
+// What is kept of the stripes that stand: all, those that do not name d, all once d has become d + up - down, or those that name neither
+// of two.
 pub enum KeptStripes {
     All,
     Without { d: u8 },
     Shifted { d: u8, up: u64, down: u64 },
+    WithoutBoth { d: u8, e: u8 },
 }
 
 // What is added in front of them.
@@ -57,6 +59,13 @@ fn names(s: Stripe, d: u8) -> bool
     ensures { λ r. ⌜ r ≡ Model.names d s ⌝ }
 {
     (s.x == d) | (s.y == d) | (s.z == d)
+}
+
+// Whether a stripe names one of two variables at least.
+fn names_either(s: Stripe, d: u8, e: u8) -> bool
+    ensures { λ r. ⌜ r ≡ (Model.names d s || Model.names e s) ⌝ }
+{
+    names(s, d) | names(s, e)
 }
 
 // n if v is d, else 0.
@@ -113,6 +122,20 @@ fn dropped(d: usize) -> Plan
 {
     Plan {
         kept: KeptStripes::Without { d: d as u8 },
+        added: AddedStripes::Nothing,
+    }
+}
+
+// The stripes that name neither d nor e.
+fn both_dropped(d: usize, e: usize) -> Plan
+    requires { ⌜ (d < variables) × (e < variables) ⌝ }
+    ensures { λ p. ⌜ Does p (λ (ss : List Stripe). Model.dropped e (Model.dropped d ss)) ⌝ }
+{
+    Plan {
+        kept: KeptStripes::WithoutBoth {
+            d: d as u8,
+            e: e as u8,
+        },
         added: AddedStripes::Nothing,
     }
 }
@@ -395,6 +418,7 @@ pub fn plan_along<'a>(
         Instruction::Jump { t } => all(),
         Instruction::Bltu { i, t, o } => ordered_stripes(e, i, o),
         Instruction::Bequ { i, t, o } => matched_stripes(e, i, o),
+        Instruction::Divm { q, i, r, o } => both_dropped(q, r),
     }
 }
 
@@ -462,6 +486,12 @@ fn append_kept(k: KeptStripes, s: Stripe, stripes: &mut [u64; STRIPE_NUMBERS], m
                 return append(stripes, m, t);
             }
             m
+        }
+        KeptStripes::WithoutBoth { d, e } => {
+            if names_either(s, d, e) {
+                return m;
+            }
+            append(stripes, m, s)
         }
     }
 }

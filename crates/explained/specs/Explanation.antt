@@ -7,7 +7,7 @@ use mathlib.Core.List.{List, [], map, _++_}
 use lib.ListN.{length, take, drop, getD, replicate}
 use lib.Dec.{leb, eqb}
 use Rattle.model.specs.declared.answers.Refusal.{Refusal}
-use Rattle.model.specs.declared.answers.Refusal.the-variants.{ListingLength, LineBytes, UnknownWord, FieldShape, NumberLimits, ClaimOrder, LastLineClaim, TooManyPoints, NoSuchTarget, NoEnd, EmptyStart, DivisorMayBeZero, AccessMayLeave, ClaimMayFail, TableLength, NoSuchPoint, ClaimsNotMet, NoRoom}
+use Rattle.model.specs.declared.answers.Refusal.the-variants.{ListingLength, LineBytes, UnknownWord, FieldShape, NumberLimits, ClaimOrder, LastLineClaim, TooManyPoints, NoSuchTarget, NoEnd, EmptyStart, DivisorMayBeZero, AccessMayLeave, ClaimMayFail, TableLength, NoSuchPoint, ClaimsNotMet, NoRoom, SameRegister}
 use Rattle.model.specs.Limits.{lineBytes}
 use Rattle.model.specs.Text.{space}
 use Rattle.model.specs.Words.{bytes}
@@ -33,6 +33,7 @@ meaningOf TableLength = bytes "a table has more than 65,536 bytes"
 meaningOf NoSuchPoint = bytes "the state's point does not exist"
 meaningOf ClaimsNotMet = bytes "the state does not meet the claims of its point"
 meaningOf NoRoom = bytes "the listing has no room for the line"
+meaningOf (SameRegister l) = bytes "quotient and remainder are to go to the same register"
 
 -- what to do about it
 abbrev pub adviceOf : Refusal → List ℕ
@@ -54,6 +55,7 @@ adviceOf TableLength = bytes "split the table"
 adviceOf NoSuchPoint = bytes "look at the state's JUMP line"
 adviceOf ClaimsNotMet = bytes "compare the registers and the sizes of the tables with the claims there"
 adviceOf NoRoom = bytes "lend more bytes; lines count from 1 to 1,638"
+adviceOf (SameRegister l) = bytes "name two registers, one in F1 and one in F3"
 
 -- a text with spaces behind it, n bytes in all
 abbrev pub padded : ℕ → List ℕ → List ℕ

@@ -100,6 +100,11 @@ const NO_ROOM: RefusalWords = RefusalWords {
     advice: *b"lend more bytes; lines count from 1 to 1,638                                    ",
 };
 
+const SAME_REGISTER: RefusalWords = RefusalWords {
+    meaning: *b"quotient and remainder are to go to the same register                           ",
+    advice: *b"name two registers, one in F1 and one in F3                                     ",
+};
+
 // The words of a refusal.
 pub fn words(r: Refusal) -> RefusalWords
     ensures { λ x. ⌜ (x .meaning ≡ padded 80 (meaningOf r)) × (x .advice ≡ padded 80 (adviceOf r)) ⌝ }
@@ -123,5 +128,6 @@ pub fn words(r: Refusal) -> RefusalWords
         Refusal::NoSuchPoint => NO_SUCH_POINT,
         Refusal::ClaimsNotMet => CLAIMS_NOT_MET,
         Refusal::NoRoom => NO_ROOM,
+        Refusal::SameRegister { line: _ } => SAME_REGISTER,
     }
 }

@@ -1,7 +1,7 @@
 -- What a run makes of the bytes of its files: the run itself, the line that is printed, and what is saved.
 use Prim.Native.Nat.{ℕ}
 use mathlib.Core.Path.{_≡_}
-use mathlib.Core.Bool.{Bool, true, false, cond}
+use mathlib.Core.Bool.{Bool, true, false, _||_, cond}
 use mathlib.Core.List.{List}
 use lib.Dec.{ltb, eqb}
 use Rattle.model.specs.declared.answers.Report.{Report}
@@ -39,10 +39,10 @@ isMade Stopped = true
 isMade Paused = true
 isMade (refusedRun r) = false
 
--- the argument with the file that the refusal of a number is about: the listing for 1 to 14, for 15 the trays where these are too long and
--- else the results, the state for 16 and 17
+-- the argument with the file that the refusal of a number is about: for 15 the trays where these are too long and else the results, the
+-- state for 16 and 17, and the listing for all others, 1 to 14 and 19
 abbrev pub fileOf : ℕ → ℕ → ℕ
-fileOf number trays = cond (ltb number 15) 1 (cond (eqb number 15) (cond (ltb greatestSize trays) 2 3) 4)
+fileOf number trays = cond (eqb number 15) (cond (ltb greatestSize trays) 2 3) (cond (eqb number 16 || eqb number 17) 4 1)
 
 -- what a run leaves: its report, the bytes of the results, the text of the state, and the line
 pub record Leaves (r : Ran) (report : Report) (rs text line : List ℕ) : Type 0 where

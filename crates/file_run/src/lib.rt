@@ -62,11 +62,11 @@ pub fn run_of(
 pub fn file_of(number: u64, trays: usize) -> usize
     ensures { λ n. ⌜ n ≡ fileOf number trays ⌝ }
 {
-    if number < 15 {
-        return 1;
+    if (number == 16) | (number == 17) {
+        return 4;
     }
     if number != 15 {
-        return 4;
+        return 1;
     }
     if GREATEST_SIZE < trays as u64 {
         return 2;

@@ -10,12 +10,12 @@ use Rattle.model.specs.declared.text.Word.{Word}
 use Rattle.model.specs.declared.text.FoundWord.the-variants.{Known}
 use Rattle.model.specs.declared.answers.Refusal.the-variants.{FieldShape, NumberLimits}
 use Rattle.model.specs.declared.answers.Judgement.{Judgement}
-use Rattle.model.specs.declared.answers.Judgement.the-variants.{Accepted, Refused}
+use Rattle.model.specs.declared.answers.Judgement.the-variants.{Refused}
 use Rattle.model.specs.Lists.{everyBelow}
 use Rattle.model.specs.Words.{fieldsOf, shaped, allowed}
-use Rattle.model.specs.Lines.{fieldAt, kindAt, F1, F5, inShape, inLimits, judged}
+use Rattle.model.specs.Lines.{fieldAt, kindAt, F1, F5, inShape, inLimits, registersJudged, judged}
 use Rattle.lines.specs.Faults.{fault, faultOf, greatest, faultIn}
-use Rattle.lines.proofs.SharedRow.{placeOf, shared-row}
+use Rattle.lines.proofs.SharedByWords.{placeOf, shared}
 
 -- the greater of two faults
 both : (a b c d : Bool) → max (fault a b) (fault c d) ≡ fault (a && c) (b && d)
@@ -65,7 +65,7 @@ pub row-fault : (u : Word) (us : List Word) → map fieldsOf us ≡ map (λ (x :
 unfolding faultIn
 row-fault u us same w fs one-of p q r s t v =
     rw (
-      shared-row (fieldsOf u) (u ∷ us) (ap (_∷_ (fieldsOf u)) same) w one-of,
+      shared fieldsOf (fieldsOf u) (u ∷ us) (ap (_∷_ (fieldsOf u)) same) w one-of,
       p (F1 fs) (F5 fs),
       q (F1 fs) (F5 fs),
       r (F1 fs) (F5 fs),
@@ -76,13 +76,13 @@ row-fault u us same w fs one-of p q r s t v =
 
 module _ (place : ℕ) (w : Word) (fs : List Field) where
   abbrev judgement : Bool → Bool → Judgement
-  judgement a b = cond a (cond b Accepted (Refused (NumberLimits place))) (Refused (FieldShape place))
+  judgement a b = cond a (cond b (registersJudged place w fs) (Refused (NumberLimits place))) (Refused (FieldShape place))
 
-  pub faultless : faultIn w fs ≡ 0 → judged place (Known w) fs ≡ Accepted
+  pub faultless : faultIn w fs ≡ 0 → judged place (Known w) fs ≡ registersJudged place w fs
   unfolding judged fault
   faultless e = go (inShape w fs) (inLimits w fs) (sym (fault-in w fs) ∙ e)
     where
-      go : (a b : Bool) → fault a b ≡ 0 → judgement a b ≡ Accepted
+      go : (a b : Bool) → fault a b ≡ 0 → judgement a b ≡ registersJudged place w fs
       go true true e = refl
       go true false e = absurd (omega (arith, e))
       go false b e = absurd (omega (arith, e))

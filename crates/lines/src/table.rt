@@ -68,5 +68,6 @@ pub(crate) fn fault_in(w: Word, fs: [Field; 6]) -> u8
             empty(e),
             bound(f),
         ),
+        Word::Divm => greatest(reg(a), var(b), reg(c), empty(d), choice(e), operand(f, e)),
     }
 }

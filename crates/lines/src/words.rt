@@ -38,6 +38,8 @@ const MOST: [u8; 4] = *b"MOST";
 
 const STRP: [u8; 4] = *b"STRP";
 
+const DIVM: [u8; 4] = *b"DIVM";
+
 // The four bytes of a word.
 pub fn text(w: Word) -> [u8; 4]
     ensures { λ r. ⌜ r ≡ textOf w ⌝ }
@@ -58,6 +60,7 @@ pub fn text(w: Word) -> [u8; 4]
         Word::Leas => LEAS,
         Word::Most => MOST,
         Word::Strp => STRP,
+        Word::Divm => DIVM,
     }
 }
 
@@ -151,6 +154,9 @@ fn find_claim(l: &[u8]) -> FoundWord
     }
     if begins_with(l, Word::Strp) {
         return FoundWord::Known(Word::Strp);
+    }
+    if begins_with(l, Word::Divm) {
+        return FoundWord::Known(Word::Divm);
     }
     FoundWord::Unknown
 }

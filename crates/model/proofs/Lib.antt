@@ -17,3 +17,4 @@ pub mod Steps
 pub mod Runs
 pub mod Safety
 pub mod Queries
+pub mod Remainders

@@ -1,16 +1,16 @@
 -- What the fields of an accepted line may hold: the limits of every instruction and claim that is read. Assumes nothing.
 use mathlib.Core.Path.{_≡_, refl}
-use mathlib.Core.Bool.{Bool, true, false, _&&_, _||_, cond}
+use mathlib.Core.Bool.{Bool, true, false, _&&_, _||_, not, cond}
 use mathlib.Core.List.{List}
 use Prim.Native.Nat.{ℕ, _≤_, _<_}
 use native.Mathlib.Omega.{arith}
 use lib.Dec.{ltb, leb, eqb}
-use borrow.Author.Tests.{ltb-true, leb-true}
-use Rattle.model.specs.Types.{Field, Blank, Number, Negative, Misshapen, Word, STOP, SETC, COPY, ADDW, SUBW, MULW, DIVF, LOAD, STOR, JUMP, BLTU, BEQU, LEAS, MOST, STRP, FoundWord, Unknown, Known, empty, variable, number, refusedLine, LineBytes, FieldShape, NumberLimits, Accepted, refused}
+use borrow.Author.Tests.{ltb-true, leb-true, eqb-false, not-true}
+use Rattle.model.specs.Types.{Field, Blank, Number, Negative, Misshapen, Word, STOP, SETC, COPY, ADDW, SUBW, MULW, DIVF, LOAD, STOR, JUMP, BLTU, BEQU, LEAS, MOST, STRP, DIVM, FoundWord, Unknown, Known, empty, variable, number, refusedLine, LineBytes, FieldShape, NumberLimits, SameRegister, Accepted, refused}
 use Rattle.model.specs.Limits.{registers, variables, MAX, greatestSize, greatestScale, greatestOffset, greatestBound, greatestPoints}
 use Rattle.model.specs.Text.{valueIn}
 use Rattle.model.specs.Words.{words, wordAmong, fieldsOf, shaped, within, allowed}
-use Rattle.model.specs.Lines.{wellSpelled, fieldsIn, fieldAt, F1, F2, F3, F4, F5, F6, kindAt, inShape, inLimits, judged, operandFrom, variableOrBlank, plusIn, minusIn, lineFrom, lineOr, lineFound, readLine}
+use Rattle.model.specs.Lines.{wellSpelled, fieldsIn, fieldAt, F1, F2, F3, F4, F5, F6, kindAt, inShape, inLimits, registersDiffer, judged, operandFrom, variableOrBlank, plusIn, minusIn, lineFrom, lineOr, lineFound, readLine}
 use Rattle.model.specs.Facts.{registerRange, sizeRange, unclaimedRange}
 use Rattle.model.specs.Limited.{OperandLimited, ArithmeticLimited, AccessLimited, BranchLimited, LineLimited}
 use Rattle.model.proofs.Tests.{and-left, and-right, cond-cases, every-below}
@@ -87,23 +87,23 @@ module _ (fs : List Field) where
         offset = leb-true (F6 fs) greatestOffset (rw r at (field-allowed w e 5 (omega arith)));
       }
 
-  pub line-limited : (w : Word) → inLimits w fs ≡ true → LineLimited (lineFrom w fs)
-  unfolding allowed within fieldsOf
-  line-limited STOP e = tt
-  line-limited SETC e = (ltb-true (F1 fs) registers (field-allowed SETC e 0 (omega arith)), leb-true (F6 fs) MAX (field-allowed SETC e 5 (omega arith)))
-  line-limited COPY e = (ltb-true (F1 fs) registers (field-allowed COPY e 0 (omega arith)), ltb-true (F2 fs) variables (field-allowed COPY e 1 (omega arith)))
-  line-limited ADDW e = arithmetic ADDW e refl refl refl
-  line-limited SUBW e = arithmetic SUBW e refl refl refl
-  line-limited MULW e = arithmetic MULW e refl refl refl
-  line-limited DIVF e = arithmetic DIVF e refl refl refl
-  line-limited LOAD e = (ltb-true (F1 fs) registers (field-allowed LOAD e 0 (omega arith)), access LOAD e refl refl refl)
-  line-limited STOR e = (ltb-true (F1 fs) variables (field-allowed STOR e 0 (omega arith)), access STOR e refl refl refl)
-  line-limited JUMP e = ltb-true (F4 fs) greatestPoints (field-allowed JUMP e 3 (omega arith))
-  line-limited BLTU e = branch BLTU e refl refl refl
-  line-limited BEQU e = branch BEQU e refl refl refl
-  line-limited LEAS e = (ltb-true (F1 fs) variables (field-allowed LEAS e 0 (omega arith)), claimed-limited (F1 fs) (F6 fs) (field-allowed LEAS e 5 (omega arith)))
-  line-limited MOST e = (ltb-true (F1 fs) variables (field-allowed MOST e 0 (omega arith)), claimed-limited (F1 fs) (F6 fs) (field-allowed MOST e 5 (omega arith)))
-  line-limited STRP e =
+  pub line-limited : (w : Word) → inLimits w fs ≡ true → registersDiffer w fs ≡ true → LineLimited (lineFrom w fs)
+  unfolding allowed within fieldsOf registersDiffer
+  line-limited STOP e n = tt
+  line-limited SETC e n = (ltb-true (F1 fs) registers (field-allowed SETC e 0 (omega arith)), leb-true (F6 fs) MAX (field-allowed SETC e 5 (omega arith)))
+  line-limited COPY e n = (ltb-true (F1 fs) registers (field-allowed COPY e 0 (omega arith)), ltb-true (F2 fs) variables (field-allowed COPY e 1 (omega arith)))
+  line-limited ADDW e n = arithmetic ADDW e refl refl refl
+  line-limited SUBW e n = arithmetic SUBW e refl refl refl
+  line-limited MULW e n = arithmetic MULW e refl refl refl
+  line-limited DIVF e n = arithmetic DIVF e refl refl refl
+  line-limited LOAD e n = (ltb-true (F1 fs) registers (field-allowed LOAD e 0 (omega arith)), access LOAD e refl refl refl)
+  line-limited STOR e n = (ltb-true (F1 fs) variables (field-allowed STOR e 0 (omega arith)), access STOR e refl refl refl)
+  line-limited JUMP e n = ltb-true (F4 fs) greatestPoints (field-allowed JUMP e 3 (omega arith))
+  line-limited BLTU e n = branch BLTU e refl refl refl
+  line-limited BEQU e n = branch BEQU e refl refl refl
+  line-limited LEAS e n = (ltb-true (F1 fs) variables (field-allowed LEAS e 0 (omega arith)), claimed-limited (F1 fs) (F6 fs) (field-allowed LEAS e 5 (omega arith)))
+  line-limited MOST e n = (ltb-true (F1 fs) variables (field-allowed MOST e 0 (omega arith)), claimed-limited (F1 fs) (F6 fs) (field-allowed MOST e 5 (omega arith)))
+  line-limited STRP e n =
       let s = scale-limited (F2 fs) (field-allowed STRP e 1 (omega arith)) in
       let b = bound-limited (fieldAt fs 5) greatestBound (leb-true (F6 fs) greatestBound (field-allowed STRP e 5 (omega arith))) in
       record {
@@ -115,17 +115,23 @@ module _ (fs : List Field) where
         plus = b .0;
         minus = b .1;
       }
+  line-limited DIVM e n = record {
+    arithmetic = arithmetic DIVM e refl refl refl;
+    register = ltb-true (F3 fs) registers (field-allowed DIVM e 2 (omega arith));
+    differ = eqb-false (F1 fs) (F3 fs) (not-true _ n);
+  }
 
   found-limited : (place : ℕ) (w : FoundWord) → LineLimited (lineFound place w fs)
   unfolding judged
   found-limited place Unknown = tt
-  found-limited place (Known w) = go (inShape w fs) (inLimits w fs) refl
+  found-limited place (Known w) = go (inShape w fs) (inLimits w fs) (registersDiffer w fs) refl refl
     where
-      go : (a b : Bool) → inLimits w fs ≡ b → LineLimited (lineOr (cond a (cond b Accepted (refused (NumberLimits place))) (refused (FieldShape place))) (lineFrom w fs))
-      go true true e = line-limited w e
-      go true false e = tt
-      go false true e = tt
-      go false false e = tt
+      go : (a b c : Bool) → inLimits w fs ≡ b → registersDiffer w fs ≡ c
+          → LineLimited (lineOr (cond a (cond b (cond c Accepted (refused (SameRegister place))) (refused (NumberLimits place))) (refused (FieldShape place))) (lineFrom w fs))
+      go true true true e d = line-limited w e d
+      go true true false e d = tt
+      go true false c e d = tt
+      go false b c e d = tt
 
 -- every line that is read lies within its limits
 pub read-limited : (place : ℕ) (l : List ℕ) → LineLimited (readLine place l)

@@ -3,19 +3,19 @@ use mathlib.Core.Path.{_≡_, refl, ap, sym, subst, _∙_}
 use mathlib.Core.Bool.{true, cond}
 use mathlib.Core.List.{List, [], _∷_}
 use Prim.Native.Nat.{ℕ, _+_, _*_, _^_, _≤_, _<_}
-use native.Mathlib.Nat.{add-zero, mul-le-mul-left}
+use native.Mathlib.Nat.{add-zero, mul-le-mul-left, le-trans, mod-le}
 use native.Mathlib.Omega.{arith}
 use native.Mathlib.Decide.{ℕ-discrete}
 use lib.ListN.{length, getD, set, length-set, length-append}
 use lib.Seq.{getD-set-same, getD-set-other, set-append-left, getD-append-add}
 use lib.Dec.{ltb, leb, eqb}
 use borrow.Author.Tests.{ltb-true, ltb-false, leb-true, leb-false, eqb-true, eqb-false}
-use Rattle.model.specs.Types.{Width, One, Two, Four, Table, Trays, Results, Operand, Instruction, Stop, Setc, Copy, Addw, Subw, Mulw, Divf, Load, Stor, Jump, Bltu, Bequ, Edge, Next, Target, Claim, Accepted, refused, NoSuchTarget, DivisorMayBeZero, AccessMayLeave, ClaimMayFail}
+use Rattle.model.specs.Types.{Width, One, Two, Four, Table, Trays, Results, Operand, Instruction, Stop, Setc, Copy, Addw, Subw, Mulw, Divf, Load, Stor, Jump, Bltu, Bequ, Divm, Edge, Next, Target, Claim, Accepted, refused, NoSuchTarget, DivisorMayBeZero, AccessMayLeave, ClaimMayFail}
 use Rattle.model.specs.Limits.{registers, variables, blankVariable, MAX, modulus, greatestLinks}
 use Rattle.model.specs.Facts.{Facts, lo, hi, factsOf, valueAt}
 use Rattle.model.specs.Instructions.{targets, goesOn}
 use Rattle.model.specs.Listing.{Point, firstLine, pointAt, targetsExist}
-use Rattle.model.specs.Machine.{Tables, lent, tableOf, tableNumber, sizesOf, sizeVariable, Config, valuesFrom, values, valueOf, operandValue, bytesOf, readBytes, writeBytes, sum, difference, product, nearestQuotient, address, wrote, went, stored, Step, next, stopped, errorState, inside, stepOf}
+use Rattle.model.specs.Machine.{Tables, lent, tableOf, tableNumber, sizesOf, sizeVariable, Config, valuesFrom, values, valueOf, operandValue, bytesOf, readBytes, writeBytes, sum, difference, product, quotient, nearestQuotient, remainder, address, wrote, wroteBoth, went, stored, Step, next, stopped, errorState, inside, stepOf}
 use Rattle.model.specs.Transfer.{stripe, factsAlong}
 use Rattle.model.specs.Follows.{lostAlong}
 use Rattle.model.specs.Check.{divisorSafe, accessSafe, safetyJudged, claimsJudged, pointJudged}
@@ -26,8 +26,8 @@ use Rattle.model.proofs.Meaning.{Holds, Met}
 use Rattle.model.proofs.Follows.{follows-holds, none-lost-along}
 use Rattle.model.proofs.Facts.{facts-long, Bounded, top, top-register, blank-value, small-value, met-facts}
 use Rattle.model.proofs.Ranges.{OnlyAt}
-use Rattle.model.proofs.Values.{nearest-small, read-below, write-long, write-byte}
-use Rattle.model.proofs.Transfer.{in-operand, setc-met, copy-met, addw-met, subw-met, mulw-met, divf-met, load-met, less-met, not-less-met, equal-met, unequal-met}
+use Rattle.model.proofs.Values.{div-small, nearest-small, read-below, write-long, write-byte}
+use Rattle.model.proofs.Transfer.{in-operand, setc-met, copy-met, addw-met, subw-met, mulw-met, divf-met, load-met, less-met, not-less-met, equal-met, unequal-met, divm-met}
 use Rattle.model.specs.Limited.{Limited}
 use Rattle.model.proofs.Reading.{both-accepted, test-passed, PointLimited}
 
@@ -155,6 +155,34 @@ module _ (ps : List Point) (limited : All PointLimited ps) (sizes : List ℕ) wh
         (divf-met (values c) (factsOf cs) h (values (wrote c d x)) d (in-ranges d in-d) (wrote-same sizes c t d x in-d) (blank-after d in-d x small) Next i o pos (wrote-value sizes c t d x in-d))
         e)
 
+    -- DIVM: the same, with the remainder written after the quotient
+    divm-good : (q i r : ℕ) (o : Operand) → q < registers → r < registers → c .point + 1 < length ps → divisorSafe (factsOf cs) o ≡ true
+        → claimsJudged l (factsAlong Next (Divm q i r o) (factsOf cs)) (pointAt ps (c .point + 1)) ≡ Accepted → StepGood ps sizes (c .tables .trays) (stepOf (Divm q i r o) c)
+    unfolding stepOf
+    divm-good q i r o in-q in-r on safe e =
+        let x = quotient (valueOf c i) (operandValue c o) in
+        let y = remainder (valueOf c i) (operandValue c o) in
+        let d = wrote c q x in
+        let p = in-operand (values c) (factsOf cs) h o in
+        let pos : 0 < operandValue c o = omega (arith, leb-true) in
+        let small : valueOf c i ≤ MAX = small-value (valueOf c) (t .bounded) i in
+        let few : x ≤ MAX = div-small (valueOf c i) (operandValue c o) MAX pos small in
+        let left : y ≤ MAX = le-trans (mod-le (valueOf c i) (operandValue c o)) small in
+        let first : Typed sizes d = wrote-typed sizes c t q x in-q few in
+        let second : Typed sizes (wrote d r y) = wrote-typed sizes d first r y in-r left in
+        cond-cases (StepGood ps sizes (c .tables .trays)) (eqb (operandValue c o) 0) errorState (next (wroteBoth c q x r y))
+        (λ z. omega (arith, eqb-true))
+        (λ z. (
+          arrive l (factsAlong Next (Divm q i r o) (factsOf cs)) (wroteBoth c q x r y) on
+              (record { registers = second .registers; tables = second .tables; bounded = second .bounded })
+              (divm-met (values c) (factsOf cs) h (values d) (values (wrote d r y)) q r
+              (in-ranges q in-q) (wrote-same sizes c t q x in-q) (blank-value (valueOf d) (first .bounded))
+              (in-ranges r in-r) (wrote-same sizes d first r y in-r) (blank-value (valueOf (wrote d r y)) (second .bounded))
+              Next i o pos (wrote-value sizes c t q x in-q) (wrote-value sizes d first r y in-r))
+              e,
+          refl,
+        ))
+
     -- an access that is safe by the facts is made
     access-good : (b : Table) (w : Width) (a i k : ℕ) (c′ : Config) → accessSafe (factsOf cs) b w a i k ≡ true → StepGood ps sizes (c .tables .trays) (next c′)
         → StepGood ps sizes (c .tables .trays) (inside (address a (valueOf c i) k) w (tableOf b (c .tables)) c′)
@@ -270,3 +298,6 @@ module _ (ps : List Point) (limited : All PointLimited ps) (sizes : List ℕ) wh
     step-good (Bequ i u o) lim on reach owed =
         let (first, rest) = both-accepted (claimsJudged l (factsAlong Next (Bequ i u o) (factsOf cs)) (pointAt ps (c .point + 1))) _ owed in
         bequ-good i u o (on refl) (target-exists u reach) first (both-accepted _ _ rest .0)
+    step-good (Divm q i r o) lim on reach owed =
+        let (safe, rest) = both-accepted (cond (divisorSafe (factsOf cs) o) Accepted (refused (DivisorMayBeZero l))) _ owed in
+        divm-good q i r o (lim .arithmetic .register) (lim .register) (on refl) (test-passed _ _ safe) (both-accepted _ _ rest .0)

@@ -1,16 +1,16 @@
 -- What an instruction does not write stays, and its step leads to the next point or to a target. Assumes nothing.
-use mathlib.Core.Path.{_≡_, refl}
+use mathlib.Core.Path.{_≡_, refl, _∙_}
 use mathlib.Core.Bool.{Bool, true, false, _&&_, _||_, cond}
 use mathlib.Core.List.{List, [], _∷_}
 use Prim.Native.Nat.{ℕ, _+_}
-use lib.ListN.{length, getD}
+use lib.ListN.{length, getD, set}
 use lib.Seq.{getD-set-other}
 use lib.Dec.{leb, ltb, eqb}
 use borrow.Author.Tests.{eqb-false, eq-eqb}
-use Rattle.model.specs.Types.{Width, Instruction, Stop, Setc, Copy, Addw, Subw, Mulw, Divf, Load, Stor, Jump, Bltu, Bequ}
+use Rattle.model.specs.Types.{Width, Instruction, Stop, Setc, Copy, Addw, Subw, Mulw, Divf, Load, Stor, Jump, Bltu, Bequ, Divm}
 use Rattle.model.specs.Lists.{some}
 use Rattle.model.specs.Instructions.{writes, targets, goesOn}
-use Rattle.model.specs.Machine.{Config, valueOf, operandValue, bytesOf, tableOf, readBytes, writeBytes, address, wrote, stored, Step, next, stopped, errorState, inside, stepOf}
+use Rattle.model.specs.Machine.{Config, valueOf, operandValue, bytesOf, tableOf, readBytes, writeBytes, address, wrote, wroteBoth, stored, Step, next, stopped, errorState, inside, stepOf}
 use Rattle.model.proofs.Tests.{cond-cases, or-false, or-true}
 
 -- the variable is one of the list
@@ -26,6 +26,12 @@ Leaves i c errorState = Unit {0}
 wrote-leaves : (c : Config) (d x r : ℕ) → among r (d ∷ []) ≡ false → getD (wrote c d x .registers) r 0 ≡ getD (c .registers) r 0
 unfolding some
 wrote-leaves c d x r e = getD-set-other (c .registers) d r x 0 (eqb-false r d (or-false (eqb r d) false e .0))
+
+both-leaves : (c : Config) (q x r y k : ℕ) → among k (q ∷ r ∷ []) ≡ false → getD (wroteBoth c q x r y .registers) k 0 ≡ getD (c .registers) k 0
+unfolding some
+both-leaves c q x r y k e =
+    let (first, rest) = or-false (eqb k q) (eqb k r || false) e in
+    getD-set-other (set (c .registers) q x) r k y 0 (eqb-false k r (or-false (eqb k r) false rest .0)) ∙ getD-set-other (c .registers) q k x 0 (eqb-false k q first)
 
 inside-leaves : (i : Instruction) (a : ℕ) (w : Width) (l : List ℕ) (c d : Config) → Leaves i c (next d) → Leaves i c (inside a w l d)
 inside-leaves i a w l c d h = cond-cases (Leaves i c) (leb (a + bytesOf w) (length l)) (next d) errorState (λ z. h) (λ z. tt)
@@ -48,6 +54,8 @@ unwritten-kept (Stor v w a i k) c =
 unwritten-kept (Jump t) c = λ r e. refl
 unwritten-kept (Bltu i t o) c = λ r e. refl
 unwritten-kept (Bequ i t o) c = λ r e. refl
+unwritten-kept (Divm q i r o) c =
+    cond-cases (Leaves (Divm q i r o) c) (eqb (operandValue c o) 0) errorState _ (λ z. tt) (λ z k e. both-leaves c q _ r _ k e)
 
 -- the point is a target, or the next one of an instruction that goes on
 abbrev pub isSuccessor : Instruction → ℕ → ℕ → Bool
@@ -87,3 +95,5 @@ leads (Stor v w a i k) c =
 leads (Jump t) c = rw (same-point t)
 leads (Bltu i t o) c = branch-leads (ltb (valueOf c i) (operandValue c o)) t (c .point)
 leads (Bequ i t o) c = branch-leads (eqb (valueOf c i) (operandValue c o)) t (c .point)
+leads (Divm q i r o) c =
+    cond-cases (Leads (Divm q i r o) c) (eqb (operandValue c o) 0) errorState _ (λ z. tt) (λ z. same-point (c .point + 1))

@@ -9,7 +9,7 @@ use native.Mathlib.Omega.{arith}
 use native.Mathlib.Decide.{ℕ-discrete}
 use lib.ListN.{length}
 use lib.Dec.{eqb, leb}
-use Rattle.model.specs.Types.{Width, Instruction, Stop, Setc, Copy, Addw, Subw, Mulw, Divf, Load, Stor, Jump, Bltu, Bequ}
+use Rattle.model.specs.Types.{Width, Instruction, Stop, Setc, Copy, Addw, Subw, Mulw, Divf, Load, Stor, Jump, Bltu, Bequ, Divm}
 use Rattle.model.specs.Listing.{Point}
 use Rattle.model.specs.Machine.{Config, valueOf, operandValue, bytesOf, tableOf, readBytes, writeBytes, address, wrote, stored, inside, instructionAt, Step, next, stopped, errorState, stepOf, stepAt, at, settled, onward, steps}
 use Rattle.model.specs.Instructions.{isStop}
@@ -44,6 +44,8 @@ made (Stor v w a i k) c =
 made (Jump t) c = refl
 made (Bltu i t o) c = refl
 made (Bequ i t o) c = refl
+made (Divm q i r o) c =
+    cond-cases (Made (Divm q i r o)) (eqb (operandValue c o) 0) errorState _ (λ z. tt) (λ z. refl)
 
 at-same : {c d : Config} → at c ≡ at d → c ≡ d
 at-same e = cc

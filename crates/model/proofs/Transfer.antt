@@ -4,22 +4,22 @@ use mathlib.Core.Logic.{_≢_}
 use mathlib.Core.Bool.{Bool, true, false, _&&_, _||_, not, cond}
 use mathlib.Core.List.{List, _∷_}
 use Prim.Native.Nat.{ℕ, _+_, _*_, _-_, _^_, _≤_, _<_}
-use native.Mathlib.Nat.{add-zero, mul-comm}
+use native.Mathlib.Nat.{add-zero, mul-comm, mod-le, mod-lt}
 use native.Mathlib.Omega.{arith}
 use native.Mathlib.Decide.{ℕ-discrete}
-use lib.ListN.{length, set}
+use lib.ListN.{length, set, length-set}
 use lib.Dec.{eqb, leb}
 use borrow.Author.Tests.{leb-true, leb-false, eqb-true, eqb-false, not-true}
-use Rattle.model.specs.Types.{Width, Table, Operand, variable, number, Setc, Copy, Addw, Subw, Mulw, Divf, Load, Bltu, Bequ, Edge, Next, Target, Range, Stripe}
+use Rattle.model.specs.Types.{Width, Table, Operand, variable, number, Setc, Copy, Addw, Subw, Mulw, Divf, Load, Bltu, Bequ, Divm, Edge, Next, Target, Range, Stripe}
 use Rattle.model.specs.Limits.{MAX, variables, blankVariable, greatestScale}
 use Rattle.model.specs.Facts.{exactly, Facts, rangeOf, valueAt}
-use Rattle.model.specs.Machine.{operandAt, bytesOf, sum, difference, product, nearestQuotient}
-use Rattle.model.specs.Transfer.{nothing, operandRange, sumFits, differenceFits, productFits, below, atLeast, atMost, overlap, without, hasOneValue, changed, operandChanged, dropped, stripe, apart, sumStripes, differenceStripes, productStripes, lessStripes, notLessStripes, equalStripes, factsAlong}
+use Rattle.model.specs.Machine.{operandAt, bytesOf, sum, difference, product, quotient, nearestQuotient, remainder}
+use Rattle.model.specs.Transfer.{nothing, operandRange, sumFits, differenceFits, productFits, below, atLeast, atMost, overlap, without, hasOneValue, changed, operandChanged, dropped, quotientRange, remainderRange, stripe, apart, sumStripes, differenceStripes, productStripes, lessStripes, notLessStripes, equalStripes, factsAlong}
 use Rattle.model.proofs.Tests.{and-right, or-false, cond-cases}
 use Rattle.model.proofs.Meaning.{InRange, InRanges, AllHold, Met}
 use Rattle.model.proofs.Ranges.{OnlyAt, in-set, in-changed, blank-zero}
 use Rattle.model.proofs.Stripes.{same-hold, apart-holds, dropped-hold, by-number}
-use Rattle.model.proofs.Values.{nearest-ends, mul-ends}
+use Rattle.model.proofs.Values.{div-ends, nearest-ends, mul-ends}
 
 module _ (vs : List ℕ) (f : Facts) (h : Met (valueAt vs) f) where
   pub in-operand : (o : Operand) → InRange (operandAt vs o) (operandRange (f .ranges) o)
@@ -220,3 +220,28 @@ module _ (vs : List ℕ) (f : Facts) (h : Met (valueAt vs) f) where
                 (λ z. h .ranges);
             stripes = h .stripes;
           }
+
+-- DIVM, which writes two registers, one after the other
+module _ (vs : List ℕ) (f : Facts) (h : Met (valueAt vs) f) (vs₁ vs₂ : List ℕ) (q r : ℕ) where
+  pub divm-met : q < length (f .ranges) → OnlyAt q (valueAt vs) (valueAt vs₁) → valueAt vs₁ blankVariable ≡ 0
+      → r < length (f .ranges) → OnlyAt r (valueAt vs₁) (valueAt vs₂) → valueAt vs₂ blankVariable ≡ 0
+      → (e : Edge) (i : ℕ) (o : Operand) → 0 < operandAt vs o
+      → valueAt vs₁ q ≡ quotient (valueAt vs i) (operandAt vs o) → valueAt vs₂ r ≡ remainder (valueAt vs i) (operandAt vs o) → Met (valueAt vs₂) (factsAlong e (Divm q i r o) f)
+  unfolding factsAlong
+  divm-met inside-q same-q zero-q inside-r same-r zero-r e i o pos x y =
+      let k = h .ranges i in
+      let p = in-operand vs f h o in
+      let a = rangeOf (f .ranges) i in
+      let b = operandRange (f .ranges) o in
+      let ends = div-ends (a .lo) (a .hi) (valueAt vs i) (b .lo) (b .hi) (operandAt vs o) (k .0) (k .1) (p .0) (p .1) pos in
+      let below-divisor : remainder (valueAt vs i) (operandAt vs o) < operandAt vs o = mod-lt (valueAt vs i) pos in
+      let small : remainder (valueAt vs i) (operandAt vs o) ≤ valueAt vs i = mod-le (valueAt vs i) (operandAt vs o) in
+      let g : Facts = record { ranges = set (f .ranges) q (quotientRange a b); stripes = dropped q (f .stripes) } in
+      let first : Met (valueAt vs₁) g =
+      written vs f h vs₁ q inside-q same-q zero-q _ _
+      (cond-cases (InRange (valueAt vs₁ q)) (eqb (b .hi) 0) nothing _ (λ t. absurd (omega (arith, eqb-true))) (λ t. omega (arith, ends)))
+      (dropped-met vs f h vs₁ q inside-q same-q zero-q) in
+      let inside : r < length (g .ranges) = rw (length-set (f .ranges) q (quotientRange a b)) inside-r in
+      written vs₁ g first vs₂ r inside same-r zero-r (remainderRange a b) _
+      (cond-cases (InRange (valueAt vs₂ r)) (eqb (b .hi) 0) nothing _ (λ t. absurd (omega (arith, eqb-true))) (λ t. omega arith))
+      (dropped-met vs₁ g first vs₂ r inside same-r zero-r)

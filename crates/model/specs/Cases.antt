@@ -2,7 +2,7 @@
 -- Answers are stated in numbers: the points of a listing that passes, or a refusal's number, place and second place, 0 for none.
 -- The rows after C10 go beyond them: each number that C1 to C10 do not show, 2 to 11, 15 and 16, and 12 once more, most with a second fault
 -- that is tested later; three rows of the printer and the runner; the call for claim lines; the slips that document 01 names, each beside a
--- like listing that passes; and document 02's requests, T-01 and T-02, with a row or more for each clause. C9 is the slip of the address. A third variable in a link and a
+-- like listing that passes; and document 02's requests, T-01 to T-03, with a row or more for each clause. C9 is the slip of the address. A third variable in a link and a
 -- fourth link stand with the slips: no run goes wrong by them, so that soundness does not refuse them. 8 is shown on points that are read: 513 lines are too many to read by computation.
 -- A listing is written a row a line: the word and the six fields, each as the text that stands at the right of its columns.
 use Prim.Native.Nat.{ℕ, zero, suc, _+_, _-_}
@@ -328,9 +328,146 @@ byNothing =
     ∷ row "STOP" "" "" "" "" "" ""
     ∷ [])
 
--- a state at a point whose first three registers hold these numbers and the others 0
+-- register 0 divided by a number: the quotient in register 1, the remainder in register 2
+abbrev dealt : String → List ℕ
+dealt n = rows (row "DIVM" "1" "0" "2" "" "1" n ∷ row "STOP" "" "" "" "" "" "" ∷ [])
+
+-- a DIVM of these three fields by a register that is at least 1
+abbrev overwriting : String → String → String → String → List ℕ
+overwriting q i r o =
+    rows
+    (row "LEAS" o "" "" "" "" "1"
+    ∷ row "DIVM" q i r "" "0" o
+    ∷ row "STOP" "" "" "" "" "" ""
+    ∷ [])
+
+-- register 0, from 20 to 50, divided by register 1, from 3 to 7, with claims that the quotient lies from l to m and the remainder is at most n
+abbrev split : String → String → String → List ℕ
+split l m n =
+    rows
+    (row "LEAS" "0" "" "" "" "" "20"
+    ∷ row "LEAS" "1" "" "" "" "" "3"
+    ∷ row "MOST" "0" "" "" "" "" "50"
+    ∷ row "MOST" "1" "" "" "" "" "7"
+    ∷ row "DIVM" "2" "0" "3" "" "0" "1"
+    ∷ row "LEAS" "2" "" "" "" "" l
+    ∷ row "MOST" "2" "" "" "" "" m
+    ∷ row "MOST" "3" "" "" "" "" n
+    ∷ row "STOP" "" "" "" "" "" ""
+    ∷ [])
+
+-- register 0, at most 9, divided by register 1, which is 5, with the quotient in register q and a claim that the remainder is at most n
+abbrev splitInto : String → String → List ℕ
+splitInto q n =
+    rows
+    (row "LEAS" "1" "" "" "" "" "5"
+    ∷ row "MOST" "0" "" "" "" "" "9"
+    ∷ row "MOST" "1" "" "" "" "" "5"
+    ∷ row "DIVM" q "0" "2" "" "0" "1"
+    ∷ row "MOST" "2" "" "" "" "" n
+    ∷ row "STOP" "" "" "" "" "" ""
+    ∷ [])
+
+-- register 0, at most 4, divided by 9, with a claim that the remainder is at most n
+abbrev splitFew : String → List ℕ
+splitFew n =
+    rows
+    (row "MOST" "0" "" "" "" "" "4"
+    ∷ row "DIVM" "1" "0" "2" "" "1" "9"
+    ∷ row "MOST" "2" "" "" "" "" n
+    ∷ row "STOP" "" "" "" "" "" ""
+    ∷ [])
+
+-- register 2 divided by register 1, whose high end is 0 and whose low end is 1, which both results leave, with a claim on the quotient that no other range meets
+abbrev splitByNothing : List ℕ
+splitByNothing =
+    rows
+    (row "STOP" "" "" "" "" "" ""
+    ∷ row "LEAS" "1" "" "" "" "" "1"
+    ∷ row "MOST" "1" "" "" "" "" "0"
+    ∷ row "DIVM" "1" "2" "0" "" "0" "1"
+    ∷ row "LEAS" "1" "" "" "" "" "9"
+    ∷ row "STOP" "" "" "" "" "" ""
+    ∷ [])
+
+-- registers 0 and 1 are written by a DIVM between two claims of one stripe, of scale 1 and with the given x, y and z
+abbrev splitBetween : String → String → String → List ℕ
+splitBetween x y z =
+    rows
+    (row "STRP" x "1" y z "" "1"
+    ∷ row "DIVM" "0" "3" "1" "" "1" "2"
+    ∷ row "STRP" x "1" y z "" "1"
+    ∷ row "STOP" "" "" "" "" "" ""
+    ∷ [])
+
+-- a DIVM of these four fields, then a MOST and this claim after it
+abbrev sameRegister : String → String → String → String → List ℕ → List ℕ
+sameRegister q i r f4 last =
+    rows
+    (row "STOP" "" "" "" "" "" ""
+    ∷ row "DIVM" q i r f4 "1" "2"
+    ∷ row "MOST" "0" "" "" "" "" "4294967295"
+    ∷ last
+    ∷ row "STOP" "" "" "" "" "" ""
+    ∷ [])
+
+-- a claim that is out of order before a DIVM with one register for both results
+abbrev sameRegisterLast : List ℕ
+sameRegisterLast =
+    rows
+    (row "MOST" "0" "" "" "" "" "9"
+    ∷ row "LEAS" "0" "" "" "" "" "0"
+    ∷ row "DIVM" "4" "2" "4" "" "1" "2"
+    ∷ row "STOP" "" "" "" "" "" ""
+    ∷ [])
+
+-- seeds dealt into packets of 12: a tray's seeds in two bytes, its packets in two bytes of the results and the leftover in one more; q and r hold them
+abbrev packets : String → String → List ℕ
+packets q r =
+    rows
+    (row "STRP" "16" "2" "1" "" "" "0"
+    ∷ row "STRP" "17" "3" "1" "" "" "0"
+    ∷ row "SETC" "0" "" "" "" "" "0"
+    ∷ row "STRP" "16" "2" "1" "" "" "0"
+    ∷ row "STRP" "17" "3" "1" "" "" "0"
+    ∷ row "BLTU" "" "0" "" "3" "0" "1"
+    ∷ row "STOP" "" "" "" "" "" ""
+    ∷ row "STRP" "16" "2" "1" "" "" "0"
+    ∷ row "STRP" "17" "3" "1" "" "" "0"
+    ∷ row "STRP" "16" "2" "0" "" "" "2"
+    ∷ row "STRP" "17" "3" "0" "" "" "3"
+    ∷ row "LOAD" "2" "2" "0" "2" "0" "0"
+    ∷ row "MOST" "2" "" "" "" "" "65535"
+    ∷ row "STRP" "16" "2" "1" "" "" "0"
+    ∷ row "STRP" "17" "3" "1" "" "" "0"
+    ∷ row "STRP" "17" "3" "0" "" "" "3"
+    ∷ row "DIVM" q "2" r "" "1" "12"
+    ∷ row "MOST" "3" "" "" "" "" "5461"
+    ∷ row "MOST" "4" "" "" "" "" "11"
+    ∷ row "STRP" "16" "2" "1" "" "" "0"
+    ∷ row "STRP" "17" "3" "1" "" "" "0"
+    ∷ row "STRP" "17" "3" "0" "" "" "3"
+    ∷ row "STOR" "3" "2" "" "3" "0" "0"
+    ∷ row "MOST" "4" "" "" "" "" "11"
+    ∷ row "STRP" "16" "2" "1" "" "" "0"
+    ∷ row "STRP" "17" "3" "1" "" "" "0"
+    ∷ row "STRP" "17" "3" "0" "" "" "3"
+    ∷ row "STOR" "4" "1" "" "3" "0" "2"
+    ∷ row "STRP" "16" "2" "1" "" "" "0"
+    ∷ row "STRP" "17" "3" "1" "" "" "0"
+    ∷ row "ADDW" "0" "0" "" "" "1" "1"
+    ∷ row "STRP" "16" "2" "1" "" "" "0"
+    ∷ row "STRP" "17" "3" "1" "" "" "0"
+    ∷ row "JUMP" "" "" "" "1" "" ""
+    ∷ [])
+
+-- a state at a point whose first registers hold these numbers and the others 0
+abbrev holding : ℕ → List ℕ → State
+holding p l = record { point = p; registers = l ++ replicate (16 - length l) 0 }
+
+-- the same with three numbers
 abbrev standing : ℕ → ℕ → ℕ → ℕ → State
-standing p a b c = record { point = p; registers = a ∷ b ∷ c ∷ replicate 13 0 }
+standing p a b c = holding p (a ∷ b ∷ c ∷ [])
 
 -- an answer in numbers: the points of a listing that passes, the end of a run, no refusal, or a refusal's number, place and second place
 data Answer : Type 0 where
@@ -395,6 +532,26 @@ runs l s ts rs n h = record { given = ofRun (run l s (lent ts rs) n); stated = h
 -- a run in which register 0, which is x, is divided by a number: register 1 becomes q
 abbrev divides : ℕ → String → ℕ → Case
 divides x n q = runs (divided n) (standing 0 x 0 0) [] [] 1 (afterRun stops 1 (standing 1 x q 0) [] [])
+
+-- a run in which register 0, which is x, is divided by a number: register 1 becomes q and register 2 becomes r
+abbrev deals : ℕ → String → ℕ → ℕ → Case
+deals x n q r = runs (dealt n) (standing 0 x 0 0) [] [] 1 (afterRun stops 1 (standing 1 x q r) [] [])
+
+-- a run of a DIVM of these fields from 17, 5 and 0 in the first registers, and what they hold then
+abbrev overwrites : String → String → String → String → ℕ → ℕ → ℕ → Case
+overwrites q i r o a b c = runs (overwriting q i r o) (standing 0 17 5 0) [] [] 1 (afterRun stops 1 (standing 1 a b c) [] [])
+
+-- a claim that may stand after MOST
+abbrev inPlace : List ℕ
+inPlace = row "MOST" "1" "" "" "" "" "4294967295"
+
+-- one that does not
+abbrev outOfPlace : List ℕ
+outOfPlace = row "LEAS" "1" "" "" "" "" "0"
+
+-- two trays of 30 and 1,000 seeds
+abbrev twoTrays : List ℕ
+twoTrays = 30 ∷ 0 ∷ 232 ∷ 3 ∷ []
 
 -- the claim lines of a point
 abbrev claimsAt : List ℕ → ℕ → Answer → List ℕ → Case
@@ -521,6 +678,77 @@ table =
     ∷ checked (shared "3" "4") (refusedBy 14 5 6)
     ∷ checked (shared "2" "3") (refusedBy 14 5 7)
     ∷ checked byNothing (passes 3)
+    -- T-03, quotient and remainder: rounded down, nothing divided, and the greatest numbers
+    ∷ deals 7 "2" 3 1
+    ∷ deals 6 "2" 3 0
+    ∷ deals 5 "10" 0 5
+    ∷ deals 0 "1" 0 0
+    ∷ deals 4294967295 "1" 4294967295 0
+    ∷ deals 4294967295 "2" 2147483647 1
+    ∷ deals 4294967295 "4294967295" 1 0
+    ∷ deals 4294967294 "4294967295" 0 4294967294
+    -- both are of the values before the step, also where a register of theirs is what is divided or the divisor
+    ∷ overwrites "0" "0" "1" "1" 3 2 0
+    ∷ overwrites "1" "0" "0" "1" 2 3 0
+    ∷ overwrites "0" "0" "2" "1" 3 5 2
+    ∷ overwrites "1" "0" "2" "1" 17 3 2
+    ∷ overwrites "2" "0" "0" "1" 2 5 3
+    ∷ overwrites "2" "0" "1" "1" 17 2 3
+    ∷ overwrites "0" "0" "2" "0" 1 5 0
+    ∷ overwrites "2" "1" "1" "1" 17 0 1
+    -- the ends of both ranges, and claims that ask one more
+    ∷ checked (split "2" "16" "6") (passes 2)
+    ∷ checked (split "3" "16" "6") (refusedBy 14 5 6)
+    ∷ checked (split "2" "15" "6") (refusedBy 14 5 7)
+    ∷ checked (split "2" "16" "5") (refusedBy 14 5 8)
+    ∷ checked (splitFew "4") (passes 2)
+    ∷ checked (splitFew "3") (refusedBy 14 2 3)
+    -- the remainder's end is of the ends before the step, where the quotient takes what is divided, the divisor, or neither
+    ∷ checked (splitInto "0" "4") (passes 2)
+    ∷ checked (splitInto "0" "3") (refusedBy 14 4 5)
+    ∷ checked (splitInto "1" "4") (passes 2)
+    ∷ checked (splitInto "1" "3") (refusedBy 14 4 5)
+    ∷ checked (splitInto "3" "4") (passes 2)
+    ∷ checked (splitInto "3" "3") (refusedBy 14 4 5)
+    -- an edge that is impossible
+    ∷ checked splitByNothing (passes 3)
+    -- a stripe of neither register stays; one of either goes
+    ∷ checked (splitBetween "16" "2" "3") (passes 2)
+    ∷ checked (splitBetween "0" "2" "") (refusedBy 14 2 3)
+    ∷ checked (splitBetween "1" "2" "") (refusedBy 14 2 3)
+    ∷ checked (splitBetween "16" "0" "") (refusedBy 14 2 3)
+    ∷ checked (splitBetween "16" "1" "") (refusedBy 14 2 3)
+    ∷ checked (splitBetween "16" "2" "0") (refusedBy 14 2 3)
+    ∷ checked (splitBetween "16" "2" "1") (refusedBy 14 2 3)
+    -- 12: a divisor that may be 0, also as a number
+    ∷ checked (overwriting "1" "0" "2" "3") (passes 2)
+    ∷ checked (dealt "1") (passes 2)
+    ∷ checked (dealt "0") (refusedBy 12 1 0)
+    ∷ checked (rows (row "DIVM" "1" "0" "2" "" "0" "3" ∷ row "STOP" "" "" "" "" "" "" ∷ [])) (refusedBy 12 1 0)
+    -- 19: alone; after 4 and 5 of its line; before 6 of a later line, and after that of an earlier one
+    ∷ checked (sameRegister "4" "2" "5" "" inPlace) (passes 3)
+    ∷ checked (sameRegister "4" "2" "4" "" inPlace) (refusedBy 19 2 0)
+    ∷ checked (sameRegister "4" "2" "4" "7" inPlace) (refusedBy 4 2 0)
+    ∷ checked (sameRegister "4" "18" "4" "" inPlace) (refusedBy 5 2 0)
+    ∷ checked (sameRegister "16" "2" "16" "" inPlace) (refusedBy 5 2 0)
+    ∷ checked (sameRegister "4" "2" "5" "" outOfPlace) (refusedBy 6 4 0)
+    ∷ checked (sameRegister "4" "2" "4" "" outOfPlace) (refusedBy 19 2 0)
+    ∷ checked sameRegisterLast (refusedBy 6 2 0)
+    -- 19 by the other calls: claim lines, a run, and a line that is set, after 5 and before 18
+    ∷ claimsAt (sameRegister "4" "2" "4" "" inPlace) 9 (refusedBy 19 2 0) []
+    ∷ runs (dealt "0" ++ sameRegister "4" "2" "4" "" inPlace) (standing 9 1 2 3) longTable [] 5 (afterRun (refusedBy 19 4 0) 0 (standing 9 1 2 3) longTable [])
+    ∷ sets "DIVM" (six (Number 4) (Number 17) (Number 5) Blank (Number 0) (Number 4)) 1 (replicate 40 0) accepts (row "DIVM" "4" "17" "5" "" "0" "4")
+    ∷ setsNothing "DIVM" (six (Number 4) (Number 17) (Number 4) Blank (Number 0) (Number 4)) 3 40 (refusedBy 19 3 0)
+    ∷ setsNothing "DIVM" (six (Number 4) (Number 18) (Number 4) Blank (Number 0) (Number 4)) 3 40 (refusedBy 5 3 0)
+    ∷ setsNothing "DIVM" (six (Number 4) (Number 18) (Number 4) (Number 0) (Number 0) (Number 4)) 3 40 (refusedBy 4 3 0)
+    ∷ setsNothing "DIVM" (six (Number 4) (Number 17) (Number 5) Blank (Number 0) (Number 4)) 3 40 (refusedBy 18 0 0)
+    -- seeds dealt into packets: 30 are 2 packets and 6 seeds, 1,000 are 83 packets and 4 seeds
+    ∷ checked (packets "3" "4") (passes 9)
+    ∷ checked (packets "3" "3") (refusedBy 19 17 0)
+    ∷ runs (packets "3" "4") (standing 0 0 2 0) twoTrays (replicate 6 255) 16 (afterRun stops 16 (holding 2 (2 ∷ 2 ∷ 1000 ∷ 83 ∷ 4 ∷ [])) twoTrays (2 ∷ 0 ∷ 6 ∷ 83 ∷ 0 ∷ 4 ∷ []))
+    -- a run that is halted after its first DIVM stands within the claims there, and goes on from it
+    ∷ runs (packets "3" "4") (standing 0 0 2 0) twoTrays (replicate 6 255) 4 (afterRun pauses 4 (holding 5 (0 ∷ 2 ∷ 30 ∷ 2 ∷ 6 ∷ [])) twoTrays (replicate 6 255))
+    ∷ runs (packets "3" "4") (holding 5 (0 ∷ 2 ∷ 30 ∷ 2 ∷ 6 ∷ [])) twoTrays (replicate 6 255) 12 (afterRun stops 12 (holding 2 (2 ∷ 2 ∷ 1000 ∷ 83 ∷ 4 ∷ [])) twoTrays (2 ∷ 0 ∷ 6 ∷ 83 ∷ 0 ∷ 4 ∷ []))
     ∷ []
 
 -- what the definitions give in a case

@@ -6,7 +6,7 @@ use mathlib.Core.Bool.{Bool, _||_, cond}
 use mathlib.Core.List.{List, [], _∷_}
 use lib.ListN.{length}
 use lib.Dec.{leb, eqb}
-use Rattle.model.specs.Types.{Width, Table, Results, Operand, Instruction, Stop, Setc, Copy, Addw, Subw, Mulw, Divf, Load, Stor, Jump, Bltu, Bequ, Edge, DivisorMayBeZero, AccessMayLeave, ClaimMayFail, Judgement, Accepted, refused, Verdict, Passed, refusedVerdict}
+use Rattle.model.specs.Types.{Width, Table, Results, Operand, Instruction, Stop, Setc, Copy, Addw, Subw, Mulw, Divf, Load, Stor, Jump, Bltu, Bequ, Divm, Edge, DivisorMayBeZero, AccessMayLeave, ClaimMayFail, Judgement, Accepted, refused, Verdict, Passed, refusedVerdict}
 use Rattle.model.specs.Limits.{blankVariable, greatestLinks}
 use Rattle.model.specs.Answers.{_andThen_}
 use Rattle.model.specs.Facts.{Facts, factsOf, lo, hi}
@@ -40,6 +40,7 @@ safetyJudged l f (Stor v w a i k) = cond (accessSafe f Results w a i k) Accepted
 safetyJudged l f (Jump t) = Accepted
 safetyJudged l f (Bltu i t o) = Accepted
 safetyJudged l f (Bequ i t o) = Accepted
+safetyJudged l f (Divm q i r o) = cond (divisorSafe f o) Accepted (refused (DivisorMayBeZero l))
 
 -- 14: the claims of a point q follow from what is known along an edge to it; l is the line of the instruction
 abbrev pub claimsJudged : ℕ → Facts → Point → Judgement
@@ -62,7 +63,7 @@ unfolding pointJudged
 pointsJudged ps zero = Accepted
 pointsJudged ps (suc n) = pointsJudged ps n andThen pointJudged ps n (pointAt ps n)
 
--- 12 to 14 over all points of a listing that is read; one that is turned back by 1 to 11 stays so
+-- 12 to 14 over all points of a listing that is read; one that is turned back by 1 to 11 or 19 stays so
 abbrev pub listingJudged : Listing → Judgement
 listingJudged (readAs ps) = pointsJudged ps (length ps)
 listingJudged (refusedListing r) = refused r
@@ -77,7 +78,7 @@ abbrev pub verdictOf : Listing → Verdict
 verdictOf (readAs ps) = verdictFrom (length ps) (listingJudged (readAs ps))
 verdictOf (refusedListing r) = refusedVerdict r
 
--- the checker's answer; a listing is 'passed' if this turns it back by none of 1 to 14
+-- the checker's answer; a listing is 'passed' if this turns it back by none of 1 to 14 and 19
 unfoldable pub check : List ℕ → Verdict
 unfolding listingOf pointsJudged
 check s = verdictOf (listingOf s)

@@ -1,9 +1,9 @@
--- Document 01, 'The machine': what can be asked of an instruction, a case for each word: the registers that it writes, the variables that
+-- Document 01, 'The machine', with document 02's word DIVM: what can be asked of an instruction, a case for each word: the registers that it writes, the variables that
 -- it reads, its targets, and whether it goes on. Every other question of this sort is answered from these.
 use Prim.Native.Nat.{ℕ}
 use mathlib.Core.Bool.{Bool, true, false, not, _&&_}
 use mathlib.Core.List.{List, [], _∷_}
-use Rattle.model.specs.Types.{Operand, variable, number, Instruction, Stop, Setc, Copy, Addw, Subw, Mulw, Divf, Load, Stor, Jump, Bltu, Bequ}
+use Rattle.model.specs.Types.{Operand, variable, number, Instruction, Stop, Setc, Copy, Addw, Subw, Mulw, Divf, Load, Stor, Jump, Bltu, Bequ, Divm}
 use Rattle.model.specs.Lists.{isEmpty}
 
 -- the registers that an instruction writes
@@ -20,6 +20,7 @@ writes (Stor v w a i k) = []
 writes (Jump t) = []
 writes (Bltu i t o) = []
 writes (Bequ i t o) = []
+writes (Divm q i r o) = q ∷ r ∷ []
 
 -- the variable of an operand, if it is one
 abbrev pub operandReads : Operand → List ℕ
@@ -40,6 +41,7 @@ reads (Stor v w a i k) = v ∷ i ∷ []
 reads (Jump t) = []
 reads (Bltu i t o) = i ∷ operandReads o
 reads (Bequ i t o) = i ∷ operandReads o
+reads (Divm q i r o) = i ∷ operandReads o
 
 -- the points that an instruction names as targets
 abbrev pub targets : Instruction → List ℕ
@@ -55,6 +57,7 @@ targets (Stor v w a i k) = []
 targets (Jump t) = t ∷ []
 targets (Bltu i t o) = t ∷ []
 targets (Bequ i t o) = t ∷ []
+targets (Divm q i r o) = []
 
 -- an instruction that may go on to the next point: any but STOP and JUMP
 abbrev pub goesOn : Instruction → Bool
@@ -70,6 +73,7 @@ goesOn (Stor v w a i k) = true
 goesOn (Jump t) = false
 goesOn (Bltu i t o) = true
 goesOn (Bequ i t o) = true
+goesOn (Divm q i r o) = true
 
 -- an instruction that names a target
 abbrev pub hasTarget : Instruction → Bool

@@ -1,7 +1,8 @@
 -- Document 01, 'The machine' and 'Claims': the limits of the operands, instructions, stripes and claims that an accepted line can hold.
 -- The contracts of the code ask for them; that every line that is read keeps them is proved.
 use Prim.Native.Nat.{ℕ, _≤_, _<_}
-use Rattle.model.specs.Types.{Operand, variable, number, Instruction, Stop, Setc, Copy, Addw, Subw, Mulw, Divf, Load, Stor, Jump, Bltu, Bequ, Stripe, Claim, Leas, Most, Strp, Line, refusedLine, claimLine, instructionLine}
+use mathlib.Core.Path.{_≡_}
+use Rattle.model.specs.Types.{Operand, variable, number, Instruction, Stop, Setc, Copy, Addw, Subw, Mulw, Divf, Load, Stor, Jump, Bltu, Bequ, Divm, Stripe, Claim, Leas, Most, Strp, Line, refusedLine, claimLine, instructionLine}
 use Rattle.model.specs.Limits.{registers, variables, blankVariable, MAX, greatestScale, greatestOffset, greatestBound, greatestPoints}
 use Rattle.model.specs.Facts.{unclaimedRange}
 
@@ -15,6 +16,12 @@ pub record ArithmeticLimited (d i : ℕ) (o : Operand) : Type 0 where
   pub register : d < registers
   pub variable : i < variables
   pub operand : OperandLimited o
+
+-- the fields of DIVM, whose two registers differ
+pub record DivisionLimited (q i r : ℕ) (o : Operand) : Type 0 where
+  pub arithmetic : ArithmeticLimited q i o
+  pub register : r < registers
+  pub differ : q ≡ r → ⊥
 
 -- the address of LOAD and STOR
 pub record AccessLimited (a i k : ℕ) : Type 0 where
@@ -53,6 +60,7 @@ Limited (Stor v w a i k) = (v < variables) × AccessLimited a i k
 Limited (Jump t) = t < greatestPoints
 Limited (Bltu i t o) = BranchLimited i t o
 Limited (Bequ i t o) = BranchLimited i t o
+Limited (Divm q i r o) = DivisionLimited q i r o
 
 -- a claim; LEAS and MOST are at most the unclaimed end of their variable
 abbrev pub ClaimLimited : Claim → Type 0

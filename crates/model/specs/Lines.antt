@@ -1,12 +1,12 @@
--- Document 01, 'The machine', 'Claims' and 'Turned back': one line of 40 bytes, read as a word and six fields and then as a claim or an instruction.
--- Within a line 2 is tested first, then 3, then 4 over all six fields, then 5 over all six.
--- 3, 4 and 5 look at the word and the fields alone, so that a writer of lines can be held to the same judgement.
+-- Document 01, 'The machine', 'Claims' and 'Turned back', with document 02's 19: one line of 40 bytes, read as a word and six fields and then as a claim or an instruction.
+-- Within a line 2 is tested first, then 3, then 4 over all six fields, then 5 over all six, then 19.
+-- 3, 4, 5 and 19 look at the word and the fields alone, so that a writer of lines can be held to the same judgement.
 use Prim.Native.Nat.{ℕ, zero, suc, _+_, _*_}
-use mathlib.Core.Bool.{Bool, _&&_, cond}
+use mathlib.Core.Bool.{Bool, true, not, _&&_, cond}
 use mathlib.Core.List.{List, [], _∷_}
 use lib.ListN.{getD, set}
 use lib.Dec.{leb, eqb}
-use Rattle.model.specs.Types.{Field, Blank, Number, Negative, Misshapen, Word, STOP, SETC, COPY, ADDW, SUBW, MULW, DIVF, LOAD, STOR, JUMP, BLTU, BEQU, LEAS, MOST, STRP, FoundWord, Unknown, Known, Kind, empty, Width, One, Two, Four, Table, Trays, Results, Operand, variable, number, Stop, Setc, Copy, Addw, Subw, Mulw, Divf, Load, Stor, Jump, Bltu, Bequ, Leas, Most, Strp, Line, refusedLine, claimLine, instructionLine, LineBytes, UnknownWord, FieldShape, NumberLimits, Judgement, Accepted, refused}
+use Rattle.model.specs.Types.{Field, Blank, Number, Negative, Misshapen, Word, STOP, SETC, COPY, ADDW, SUBW, MULW, DIVF, LOAD, STOR, JUMP, BLTU, BEQU, LEAS, MOST, STRP, DIVM, FoundWord, Unknown, Known, Kind, empty, Width, One, Two, Four, Table, Trays, Results, Operand, variable, number, Stop, Setc, Copy, Addw, Subw, Mulw, Divf, Load, Stor, Jump, Bltu, Bequ, Divm, Leas, Most, Strp, Line, refusedLine, claimLine, instructionLine, LineBytes, UnknownWord, FieldShape, NumberLimits, SameRegister, Judgement, Accepted, refused}
 use Rattle.model.specs.Limits.{blankVariable}
 use Rattle.model.specs.Lists.{everyBelow}
 use Rattle.model.specs.Text.{space, lineEnd, fieldOf, valueIn, fieldSet}
@@ -79,11 +79,34 @@ unfoldable pub inLimits : Word → List Field → Bool
 unfolding everyBelow allowed fieldsOf
 inLimits w fs = everyBelow (λ (j : ℕ). allowed (kindAt w j) (F1 fs) (F5 fs) (fieldAt fs j)) 6
 
--- 3, 4 and 5: a word and its fields, judged with a line number for place
+-- 19: DIVM writes two registers, so that F1 and F3 differ; of the other words nothing is asked
+unfoldable pub registersDiffer : Word → List Field → Bool
+registersDiffer STOP fs = true
+registersDiffer SETC fs = true
+registersDiffer COPY fs = true
+registersDiffer ADDW fs = true
+registersDiffer SUBW fs = true
+registersDiffer MULW fs = true
+registersDiffer DIVF fs = true
+registersDiffer LOAD fs = true
+registersDiffer STOR fs = true
+registersDiffer JUMP fs = true
+registersDiffer BLTU fs = true
+registersDiffer BEQU fs = true
+registersDiffer LEAS fs = true
+registersDiffer MOST fs = true
+registersDiffer STRP fs = true
+registersDiffer DIVM fs = not (eqb (F1 fs) (F3 fs))
+
+-- 19, for a word whose fields are in shape and within their limits
+abbrev pub registersJudged : ℕ → Word → List Field → Judgement
+registersJudged place w fs = cond (registersDiffer w fs) Accepted (refused (SameRegister place))
+
+-- 3, 4, 5 and 19: a word and its fields, judged with a line number for place
 unfoldable pub judged : ℕ → FoundWord → List Field → Judgement
-unfolding inShape inLimits
+unfolding inShape inLimits registersDiffer
 judged place Unknown fs = refused (UnknownWord place)
-judged place (Known w) fs = cond (inShape w fs) (cond (inLimits w fs) Accepted (refused (NumberLimits place))) (refused (FieldShape place))
+judged place (Known w) fs = cond (inShape w fs) (cond (inLimits w fs) (registersJudged place w fs) (refused (NumberLimits place))) (refused (FieldShape place))
 
 -- the width that a number within its limits stands for
 abbrev pub widthFrom : ℕ → Width
@@ -137,6 +160,7 @@ lineFrom MOST fs = claimLine (Most (F1 fs) (F6 fs))
 lineFrom STRP fs =
     claimLine
     (Strp (record { x = F1 fs; a = F2 fs; y = F3 fs; z = variableOrBlank (fieldAt fs 3); plus = plusIn (fieldAt fs 5); minus = minusIn (fieldAt fs 5) }))
+lineFrom DIVM fs = instructionLine (Divm (F1 fs) (F2 fs) (F3 fs) (operandFrom (F5 fs) (F6 fs)))
 
 -- the line, where nothing turns it back
 abbrev pub lineOr : Judgement → Line → Line

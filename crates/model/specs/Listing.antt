@@ -110,7 +110,7 @@ unfolding factsOf nonEmpty
 wholeJudged lines ps cs =
     endsWithInstruction lines cs andThen fewPoints ps andThen allTargetsExist (length ps) ps andThen endsInPlace lines ps andThen startsNonEmpty ps
 
--- a listing is read as its points, or turned back by one of 1 to 11
+-- a listing is read as its points, or turned back by one of 1 to 11 or by 19
 pub data Listing : Type 0 where
   readAs : List Point → Listing
   refusedListing : Refusal → Listing
@@ -146,7 +146,7 @@ pointsOf (refusedListing r) = []
 abbrev pub pointExists : List Point → ℕ → Judgement
 pointExists ps p = cond (ltb p (length ps)) Accepted (refused NoSuchPoint)
 
--- what turns the call for claim lines back: a refusal of reading, 1 to 11, and without one a point that does not exist, 16
+-- what turns the call for claim lines back: a refusal of reading, 1 to 11 or 19, and without one a point that does not exist, 16
 abbrev pub claimLinesJudged : Listing → ℕ → Judgement
 claimLinesJudged (readAs ps) p = pointExists ps p
 claimLinesJudged (refusedListing r) p = refused r

@@ -2,17 +2,17 @@
 -- A configuration is a state with the bytes of the tables, so that it is a fact about the step, and no matter of notation, that the trays stay as they are.
 -- The tables are one thing and their sizes one list, which follows the registers among the values of all variables.
 -- The error state is a case of its own, and so is standing at STOP, which makes no step.
--- The quotient of DIVF is that of document 02's T-02.
+-- The quotient of DIVF is that of document 02's T-02, and DIVM is the word of its T-03.
 use Prim.Native.Nat.{ℕ, zero, suc, _+_, _*_, _-_, _/_, _%_, _<_, _≤_}
 use mathlib.Core.Path.{_≡_}
 use mathlib.Core.Bool.{cond}
 use mathlib.Core.List.{List, [], _∷_, _++_}
 use lib.ListN.{length, getD, set}
 use lib.Dec.{leb, ltb, eqb}
-use Rattle.model.specs.Types.{Width, One, Two, Four, Table, Trays, Results, Operand, variable, number, Instruction, Stop, Setc, Copy, Addw, Subw, Mulw, Divf, Load, Stor, Jump, Bltu, Bequ, State}
+use Rattle.model.specs.Types.{Width, One, Two, Four, Table, Trays, Results, Operand, variable, number, Instruction, Stop, Setc, Copy, Addw, Subw, Mulw, Divf, Load, Stor, Jump, Bltu, Bequ, Divm, State}
 use Rattle.model.specs.Limits.{registers, modulus}
 use Rattle.model.specs.Facts.{valueAt}
-use Rattle.model.specs.Listing.{Point, pointAt}
+use Rattle.model.specs.Listing.{Point, pointAt, readAs, listingOf}
 
 -- the bytes of the tables, by the tables' names
 pub record Tables : Type 0 where
@@ -122,6 +122,10 @@ pub record Nearest (x y q : ℕ) : Type 0 where
 abbrev pub QuotientIsNearest : Type 0
 QuotientIsNearest = (x y : ℕ) → 0 < y → Nearest x y (nearestQuotient x y) × (nearestQuotient x y ≤ x)
 
+-- the remainder of DIVM: what is left of x by the quotient rounded down
+abbrev pub remainder : ℕ → ℕ → ℕ
+remainder x y = x % y
+
 -- the address of an access, which never wraps
 abbrev pub address : ℕ → ℕ → ℕ → ℕ
 address a x k = a * x + k
@@ -129,6 +133,10 @@ address a x k = a * x + k
 -- on to the next point, with one register written
 abbrev pub wrote : Config → ℕ → ℕ → Config
 wrote c d x = record { point = c .point + 1; registers = set (c .registers) d x; tables = c .tables }
+
+-- on to the next point, with two registers written
+abbrev pub wroteBoth : Config → ℕ → ℕ → ℕ → ℕ → Config
+wroteBoth c q x r y = record { point = c .point + 1; registers = set (set (c .registers) q x) r y; tables = c .tables }
 
 -- on to another point
 abbrev pub went : Config → ℕ → Config
@@ -166,6 +174,9 @@ stepOf (Stor v w a i k) c =
 stepOf (Jump t) c = next (went c t)
 stepOf (Bltu i t o) c = next (went c (cond (ltb (valueOf c i) (operandValue c o)) t (c .point + 1)))
 stepOf (Bequ i t o) c = next (went c (cond (eqb (valueOf c i) (operandValue c o)) t (c .point + 1)))
+stepOf (Divm q i r o) c =
+    cond (eqb (operandValue c o) 0) errorState
+    (next (wroteBoth c q (quotient (valueOf c i) (operandValue c o)) r (remainder (valueOf c i) (operandValue c o))))
 
 -- the instruction at a configuration's point
 abbrev pub instructionAt : List Point → Config → Instruction
@@ -174,6 +185,18 @@ instructionAt ps c = pointAt ps (c .point) .instruction
 -- the step from a configuration
 abbrev pub stepAt : List Point → Config → Step
 stepAt ps c = stepOf (instructionAt ps c) c
+
+-- from c to d the variable i is divided by the operand o: register q holds the quotient after it and register r the remainder, which is below the divisor
+pub record DividedExactly (c d : Config) (q i r : ℕ) (o : Operand) : Type 0 where
+  pub dividend : valueOf c i ≡ valueOf d q * operandValue c o + valueOf d r
+  pub below : valueOf d r < operandValue c o
+
+-- the promise of T-03: from every configuration of a listing that is read, the step of a DIVM leaves the quotient and what is left over, whichever registers it overwrites
+abbrev pub RemainderIsExact : Type 0
+RemainderIsExact =
+    (l : List ℕ) (ps : List Point) → listingOf l ≡ readAs ps →
+    (c d : Config) → length (c .registers) ≡ registers →
+    (q i r : ℕ) (o : Operand) → instructionAt ps c ≡ Divm q i r o → stepAt ps c ≡ next d → DividedExactly c d q i r o
 
 -- where the machine is after some steps: at a configuration, or in the error state
 pub data Machine : Type 0 where

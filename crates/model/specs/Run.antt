@@ -1,5 +1,5 @@
 -- Document 01, 'Turned back' and 'The runs of demand 3': a run with its budget, refusals 15 to 17, and what it hands back.
--- A run repeats 1 to 14, then tests 15 for all tables, 16 and 17. A refused run hands back what it was handed, with 0 steps.
+-- A run repeats 1 to 14 and 19, then tests 15 for all tables, 16 and 17. A refused run hands back what it was handed, with 0 steps.
 use Prim.Native.Nat.{ℕ, zero, suc, _+_}
 use mathlib.Core.Bool.{Bool, true, false, _&&_, cond}
 use mathlib.Core.List.{List}
@@ -37,7 +37,7 @@ claimsMet ps s sizes = cond (meetsClaims ps s sizes) Accepted (refused ClaimsNot
 abbrev pub stateJudged : List Point → State → List ℕ → Judgement
 stateJudged ps s sizes = tablesFit sizes andThen pointExists ps (s .point) andThen claimsMet ps s sizes
 
--- 1 to 17, in order, for a listing, a state and tables of these sizes
+-- 1 to 17 and 19, in their order, for a listing, a state and tables of these sizes
 unfoldable pub runJudged : List ℕ → State → List ℕ → Judgement
 unfolding listingOf check every meetsClaims
 runJudged l s sizes = listingJudged (listingOf l) andThen stateJudged (pointsOf (listingOf l)) s sizes

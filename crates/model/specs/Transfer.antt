@@ -1,4 +1,4 @@
--- Document 01, 'What a step does to claims', with DIVF's range from document 02's T-02: the ranges and the stripes along each edge of an instruction.
+-- Document 01, 'What a step does to claims', with DIVF's range from document 02's T-02 and DIVM from its T-03: the ranges and the stripes along each edge of an instruction.
 -- The new ends of all ranges are computed from the ends before the step. Ends are whole numbers, and of an empty range only its emptiness
 -- counts: an edge with an empty range is impossible. A high end that falls below 0 is written as a range that holds nothing, or stands as
 -- 0 where the low end is at least 1 already (`without`). Where i is o, the change of o acts on the range that the change of i has made; that
@@ -8,12 +8,12 @@ use mathlib.Core.Bool.{Bool, not, _&&_, _||_, cond}
 use mathlib.Core.List.{List, [], _∷_, _++_, map}
 use lib.ListN.{set}
 use lib.Dec.{leb, eqb}
-use Rattle.model.specs.Types.{Operand, variable, number, Instruction, Stop, Setc, Copy, Addw, Subw, Mulw, Divf, Load, Stor, Jump, Bltu, Bequ, Edge, Next, Target, Range, Stripe}
+use Rattle.model.specs.Types.{Operand, variable, number, Instruction, Stop, Setc, Copy, Addw, Subw, Mulw, Divf, Load, Stor, Jump, Bltu, Bequ, Divm, Edge, Next, Target, Range, Stripe}
 use Rattle.model.specs.Limits.{MAX, blankVariable, greatestScale, greatestBound}
 use Rattle.model.specs.Lists.{kept}
 use Rattle.model.specs.Facts.{between, exactly, registerRange, Facts, rangeOf, nonEmpty}
 use Rattle.model.specs.Instructions.{targets, goesOn}
-use Rattle.model.specs.Machine.{bytesOf, nearestQuotient}
+use Rattle.model.specs.Machine.{bytesOf, quotient, nearestQuotient}
 
 -- the edges of an instruction to its successors: to the next point, then to the target
 abbrev pub edges : Instruction → List Edge
@@ -66,6 +66,14 @@ nearestRange r q = cond (eqb (q .hi) 0) nothing (between (nearestQuotient (r .lo
 -- the high end at most one less than e; nothing where that falls below 0
 abbrev pub below : ℕ → Range → Range
 below e r = cond (eqb e 0) nothing (between (r .lo) (min (r .hi) (e - 1)))
+
+-- DIVM's quotient: lo(i) by hi(o) to hi(i) by the larger of lo(o) and 1, rounded down; nothing where hi(o) is 0
+abbrev pub quotientRange : Range → Range → Range
+quotientRange r q = cond (eqb (q .hi) 0) nothing (between (quotient (r .lo) (q .hi)) (quotient (r .hi) (max (q .lo) 1)))
+
+-- DIVM's remainder: 0 to the smaller of hi(i) and hi(o) − 1; nothing where hi(o) is 0
+abbrev pub remainderRange : Range → Range → Range
+remainderRange r q = below (q .hi) (between 0 (r .hi))
 
 -- the low end at least e
 abbrev pub atLeast : ℕ → Range → Range
@@ -131,6 +139,8 @@ rangesAlong Next (Bltu i t o) rs = notLessRanges i o rs
 rangesAlong (Target u) (Bltu i t o) rs = lessRanges i o rs
 rangesAlong Next (Bequ i t o) rs = unequalRanges i o rs
 rangesAlong (Target u) (Bequ i t o) rs = equalRanges i o rs
+rangesAlong e (Divm q i r o) rs =
+    set (set rs q (quotientRange (rangeOf rs i) (operandRange rs o))) r (remainderRange (rangeOf rs i) (operandRange rs o))
 
 -- stripes
 
@@ -226,6 +236,7 @@ stripesAlong Next (Bltu i t o) rs ss = notLessStripes i o ss
 stripesAlong (Target u) (Bltu i t o) rs ss = lessStripes i o ss
 stripesAlong Next (Bequ i t o) rs ss = ss
 stripesAlong (Target u) (Bequ i t o) rs ss = equalStripes i o ss
+stripesAlong e (Divm q i r o) rs ss = dropped r (dropped q ss)
 
 -- what is known along an edge
 unfoldable pub factsAlong : Edge → Instruction → Facts → Facts

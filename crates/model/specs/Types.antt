@@ -6,7 +6,7 @@ pub use Rattle.model.specs.declared.text.Shape.the-variants.{Spaces, Zer
 pub use Rattle.model.specs.declared.text.Field.{Field}
 pub use Rattle.model.specs.declared.text.Field.the-variants.{Blank, Number, Negative, Misshapen}
 pub use Rattle.model.specs.declared.text.Word.{Word}
-pub use Rattle.model.specs.declared.text.Word.the-variants.{Stop as STOP, Setc as SETC, Copy as COPY, Addw as ADDW, Subw as SUBW, Mulw as MULW, Divf as DIVF, Load as LOAD, Stor as STOR, Jump as JUMP, Bltu as BLTU, Bequ as BEQU, Leas as LEAS, Most as MOST, Strp as STRP}
+pub use Rattle.model.specs.declared.text.Word.the-variants.{Stop as STOP, Setc as SETC, Copy as COPY, Addw as ADDW, Subw as SUBW, Mulw as MULW, Divf as DIVF, Load as LOAD, Stor as STOR, Jump as JUMP, Bltu as BLTU, Bequ as BEQU, Leas as LEAS, Most as MOST, Strp as STRP, Divm as DIVM}
 pub use Rattle.model.specs.declared.text.FoundWord.{FoundWord}
 pub use Rattle.model.specs.declared.text.FoundWord.the-variants.{Unknown, Known}
 pub use Rattle.model.specs.declared.text.Content.{Content}
@@ -20,7 +20,7 @@ pub use Rattle.model.specs.declared.machine.Table.the-variants.{Trays, R
 pub use Rattle.model.specs.declared.machine.Operand.{Operand}
 pub use Rattle.model.specs.declared.machine.Operand.the-variants.{Variable as variable, Number as number}
 pub use Rattle.model.specs.declared.machine.Instruction.{Instruction}
-pub use Rattle.model.specs.declared.machine.Instruction.the-variants.{Stop, Setc, Copy, Addw, Subw, Mulw, Divf, Load, Stor, Jump, Bltu, Bequ}
+pub use Rattle.model.specs.declared.machine.Instruction.the-variants.{Stop, Setc, Copy, Addw, Subw, Mulw, Divf, Load, Stor, Jump, Bltu, Bequ, Divm}
 pub use Rattle.model.specs.declared.machine.Edge.{Edge}
 pub use Rattle.model.specs.declared.machine.Edge.the-variants.{Next, Target}
 pub use Rattle.model.specs.declared.machine.State.{State}
@@ -31,7 +31,7 @@ pub use Rattle.model.specs.declared.claims.Claim.the-variants.{Leas, Mos
 pub use Rattle.model.specs.declared.claims.Line.{Line}
 pub use Rattle.model.specs.declared.claims.Line.the-variants.{Refused as refusedLine, Claim as claimLine, Instruction as instructionLine}
 pub use Rattle.model.specs.declared.answers.Refusal.{Refusal}
-pub use Rattle.model.specs.declared.answers.Refusal.the-variants.{ListingLength, LineBytes, UnknownWord, FieldShape, NumberLimits, ClaimOrder, LastLineClaim, TooManyPoints, NoSuchTarget, NoEnd, EmptyStart, DivisorMayBeZero, AccessMayLeave, ClaimMayFail, TableLength, NoSuchPoint, ClaimsNotMet, NoRoom}
+pub use Rattle.model.specs.declared.answers.Refusal.the-variants.{ListingLength, LineBytes, UnknownWord, FieldShape, NumberLimits, ClaimOrder, LastLineClaim, TooManyPoints, NoSuchTarget, NoEnd, EmptyStart, DivisorMayBeZero, AccessMayLeave, ClaimMayFail, TableLength, NoSuchPoint, ClaimsNotMet, NoRoom, SameRegister}
 pub use Rattle.model.specs.declared.answers.Judgement.{Judgement}
 pub use Rattle.model.specs.declared.answers.Judgement.the-variants.{Accepted, Refused as refused}
 pub use Rattle.model.specs.declared.answers.Verdict.{Verdict}

@@ -1,5 +1,5 @@
 -- Document 02, T-01: one line of a lent listing, set from a word, six fields and the line's number counted from 1.
--- 3, 4 and 5 are tested as for a line that is read, with the number as given for place, and 18 after them. A call that is turned back changes no byte.
+-- 3, 4, 5 and 19 are tested as for a line that is read, with the number as given for place, and 18 after them. A call that is turned back changes no byte.
 -- The two laws at the end tie what the call writes to what the reader takes. Their proofs are those of the crate `writer`.
 use Prim.Native.Nat.{ℕ, _*_, _-_, _<_, _≤_}
 use mathlib.Core.Path.{_≡_}
@@ -24,7 +24,7 @@ wordOf t = cond (eqb (length t) 4) (wordAmong words t) Unknown
 unfoldable pub roomFor : ℕ → ℕ → Judgement
 roomFor n size = cond (leb 1 n && leb n greatestLines && leb (n * lineBytes) size) Accepted (refused NoRoom)
 
--- what turns the call back: 3, 4 and 5, then 18
+-- what turns the call back: 3, 4, 5 and 19, then 18
 unfoldable pub lineJudged : List ℕ → List Field → ℕ → List ℕ → Judgement
 unfolding wordOf judged roomFor
 lineJudged t fs n s = judged n (wordOf t) fs andThen roomFor n (length s)

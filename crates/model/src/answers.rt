@@ -3,7 +3,7 @@ use crate::machine::State;
 ghost use mathlib.Core.Path.{_≡_};
 ghost use Rattle.model.specs.Answers.{isRefused};
 
-// Why a listing, a state or a call is turned back: a case for each number from 1 to 18, in their order, with the lines that it names.
+// Why a listing, a state or a call is turned back: a case for each number from 1 to 19, in their order, with the lines that it names.
 pub enum Refusal {
     ListingLength,
     LineBytes { line: usize },
@@ -23,6 +23,7 @@ pub enum Refusal {
     NoSuchPoint,
     ClaimsNotMet,
     NoRoom,
+    SameRegister { line: usize },
 }
 
 // Whether something is turned back.

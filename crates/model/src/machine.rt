@@ -87,6 +87,12 @@ pub enum Instruction {
         t: usize,
         o: Operand,
     },
+    Divm {
+        q: usize,
+        i: usize,
+        r: usize,
+        o: Operand,
+    },
 }
 
 // A way on from a point: to the next point, or to the target that its instruction names.

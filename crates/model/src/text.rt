@@ -34,6 +34,7 @@ pub enum Word {
     Leas,
     Most,
     Strp,
+    Divm,
 }
 
 // The word of a line, where its four bytes are one.

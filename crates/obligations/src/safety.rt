@@ -192,5 +192,11 @@ pub(crate) fn safety_judged<'a>(
         Instruction::Jump { t: _ } => Judgement::Accepted,
         Instruction::Bltu { i: _, t: _, o: _ } => Judgement::Accepted,
         Instruction::Bequ { i: _, t: _, o: _ } => Judgement::Accepted,
+        Instruction::Divm {
+            q: _,
+            i: _,
+            r: _,
+            o,
+        } => divisor_judged(line, low, high, stripes, m, o),
     }
 }

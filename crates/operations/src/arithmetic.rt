@@ -1,4 +1,4 @@
-// What instructions compute of numbers: differences, products and quotients of registers, and addresses.
+// What instructions compute of numbers: differences, products, quotients and remainders of registers, and addresses.
 use model::limits::MODULUS;
 ghost use mathlib.Core.Path.{_≡_};
 ghost use Prim.Native.Nat.{_+_, _*_, _<_, _≤_};
@@ -33,6 +33,22 @@ pub fn nearest_quotient_u32(x: u32, y: u32) -> u32
     ensures { λ r. ⌜ r ≡ Machine.nearestQuotient x y ⌝ }
 {
     nearest_quotient(x as u64, y as u64) as u32
+}
+
+// The quotient of two registers, rounded down.
+pub fn quotient(x: u32, y: u32) -> u32
+    requires { ⌜ 0 < y ⌝ }
+    ensures { λ r. ⌜ r ≡ Machine.quotient x y ⌝ }
+{
+    x / y
+}
+
+// What is left of one register by another once the quotient is rounded down.
+pub fn remainder(x: u32, y: u32) -> u32
+    requires { ⌜ 0 < y ⌝ }
+    ensures { λ r. ⌜ r ≡ Machine.remainder x y ⌝ }
+{
+    x % y
 }
 
 // The address of an access, a whole number that is never reduced.

@@ -48,5 +48,6 @@ pub fn numbers(r: Refusal) -> RefusalNumbers
         Refusal::NoSuchPoint => with_place(16, 0),
         Refusal::ClaimsNotMet => with_place(17, 0),
         Refusal::NoRoom => with_place(18, 0),
+        Refusal::SameRegister { line } => with_place(19, line),
     }
 }

@@ -5,7 +5,7 @@ use mathlib.Core.Bool.{true, false}
 use mathlib.Core.List.{List}
 use Rattle.model.specs.declared.text.Field.{Field}
 use Rattle.model.specs.declared.text.Word.{Word}
-use Rattle.model.specs.declared.text.Word.the-variants.{Stop as STOP, Setc as SETC, Copy as COPY, Addw as ADDW, Subw as SUBW, Mulw as MULW, Divf as DIVF, Load as LOAD, Stor as STOR, Jump as JUMP, Bltu as BLTU, Bequ as BEQU, Leas as LEAS, Most as MOST, Strp as STRP}
+use Rattle.model.specs.declared.text.Word.the-variants.{Stop as STOP, Setc as SETC, Copy as COPY, Addw as ADDW, Subw as SUBW, Mulw as MULW, Divf as DIVF, Load as LOAD, Stor as STOR, Jump as JUMP, Bltu as BLTU, Bequ as BEQU, Leas as LEAS, Most as MOST, Strp as STRP, Divm as DIVM}
 use Rattle.model.specs.declared.text.FoundWord.the-variants.{Unknown, Known}
 use Rattle.model.specs.declared.claims.Line.{Line}
 use Rattle.model.specs.declared.claims.Line.the-variants.{Refused as refusedLine}
@@ -46,6 +46,7 @@ kept-from BEQU fs = refl
 kept-from LEAS fs = refl
 kept-from MOST fs = refl
 kept-from STRP fs = refl
+kept-from DIVM fs = refl
 
 sort-from : (w : Word) (fs : List Field) → sortFrom w (F1 fs) ≡ sortOf (lineFrom w fs)
 sort-from STOP fs = refl
@@ -63,6 +64,7 @@ sort-from BEQU fs = refl
 sort-from LEAS fs = refl
 sort-from MOST fs = refl
 sort-from STRP fs = refl
+sort-from DIVM fs = refl
 
 module _ (place : ℕ) (w : Word) (fs : List Field) (x : Read) where
   line-as : (j : Judgement) (l : Line) → judged place (Known w) fs ≡ j → lineOr j (lineFrom w fs) ≡ l → ReadAs l x → ReadAs (lineOr (judged place (Known w) fs) (lineFrom w fs)) x
@@ -72,7 +74,7 @@ module _ (place : ℕ) (w : Word) (fs : List Field) (x : Read) where
   known-accepted e r s =
       let ok = accepted place w fs e in
       line-as Accepted (lineFrom w fs) e refl (record {
-        row = ap Decoded.lineOfRow r ∙ line-same fs w (ok .0) (ok .1) ∙ sym (kept-from w fs);
+        row = ap Decoded.lineOfRow r ∙ line-same fs w (ok .0) (ok .1) (ok .2) ∙ sym (kept-from w fs);
         sort = s ∙ ap (λ (y : Row). sortFrom w (y .first)) r ∙ sort-from w fs;
       })
 

@@ -66,6 +66,7 @@ fn sort_of(w: Word, v: u64) -> Sort
         Word::Leas => Sort::Leas(v),
         Word::Most => Sort::Most(v),
         Word::Strp => Sort::Strp,
+        Word::Divm => Sort::Instruction,
     }
 }
 

@@ -64,6 +64,12 @@ pub fn goes_on(i: Instruction) -> bool
         Instruction::Jump { t: _ } => false,
         Instruction::Bltu { i: _, t: _, o: _ } => true,
         Instruction::Bequ { i: _, t: _, o: _ } => true,
+        Instruction::Divm {
+            q: _,
+            i: _,
+            r: _,
+            o: _,
+        } => true,
     }
 }
 

@@ -152,7 +152,7 @@ module _ (l : List ℕ) (s : State) (t : Tables) (b : ℕ) where
   unfolding run
   run-by j e = ap (λ (x : Judgement). ranFrom x (pointsOf (listingOf l)) s t b) e
 
-  -- turned back by 1 to 14
+  -- turned back by 1 to 14 or 19
   pub listing-refused : (r : Refusal) → listingJudged (listingOf l) ≡ refused r → RunByValue (run l s t b) (outcome (refusedRun r) s 0) (t .results)
   unfolding runJudged
   listing-refused r e =

@@ -183,7 +183,7 @@ fn run_many(
     )
 }
 
-// A run of a listing from a state over both tables, with a budget of steps. It repeats 1 to 14, then tests 15 to 17.
+// A run of a listing from a state over both tables, with a budget of steps. It repeats 1 to 14 and 19, then tests 15 to 17.
 // A run that is turned back hands back the state as it was with 0 steps, and leaves every byte of the results.
 // A listing of few lines has few rows and little code, so that its call does not pay for the longest.
 pub fn run(listing: &[u8], state: State, trays: &[u8], results: &mut [u8], budget: u32) -> Outcome

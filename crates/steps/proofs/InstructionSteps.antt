@@ -14,10 +14,10 @@ use Rattle.model.specs.declared.machine.Table.{Table}
 use Rattle.model.specs.declared.machine.Table.the-variants.{Trays, Results}
 use Rattle.model.specs.declared.machine.Operand.{Operand}
 use Rattle.model.specs.declared.machine.Instruction.{Instruction}
-use Rattle.model.specs.declared.machine.Instruction.the-variants.{Stop, Setc, Copy, Addw, Subw, Mulw, Divf, Load, Stor, Jump, Bltu, Bequ}
+use Rattle.model.specs.declared.machine.Instruction.the-variants.{Stop, Setc, Copy, Addw, Subw, Mulw, Divf, Load, Stor, Jump, Bltu, Bequ, Divm}
 use Rattle.model.specs.Limits.{registers, tables}
 use Rattle.model.specs.Facts.{valueAt}
-use Rattle.model.specs.Machine.{Tables, lent, tableOf, sizesOf, Config, valuesFrom, operandAt, bytesOf, readBytes, writeBytes, sum, difference, product, nearestQuotient, address, wrote, went, stored, next, errorState, inside, stepOf, at, settled}
+use Rattle.model.specs.Machine.{Tables, lent, tableOf, sizesOf, Config, valuesFrom, operandAt, bytesOf, readBytes, writeBytes, sum, difference, product, quotient, nearestQuotient, remainder, address, wrote, wroteBoth, went, stored, next, errorState, inside, stepOf, at, settled}
 use Rattle.model.proofs.Values.{write-long}
 use Rattle.steps.specs.Stepped.{config, ValuesOver, Steppable, Stepped}
 
@@ -25,6 +25,17 @@ use Rattle.steps.specs.Stepped.{config, ValuesOver, Steppable, Stepped}
 pub table-short : (b : Table) (ts rs : List ℕ) (n : ℕ) → length ts < n → length rs < n → length (tableOf b (lent ts rs)) < n
 table-short Trays ts rs n t r = t
 table-short Results ts rs n t r = r
+
+-- a division is an error where the divisor is 0
+positive : (n : ℕ) (c : Config) → (cond (eqb n 0) errorState (next c) ≡ errorState → ⊥) → 0 < n
+positive n c safe = go (ℕ-discrete n 0)
+  where
+    go : Dec (n ≡ 0) → 0 < n
+    go (yes e) = absurd (safe (rw (eq-eqb _ _ e)))
+    go (no e) = omega arith
+
+divided : (n : ℕ) (c : Config) → 0 < n → cond (eqb n 0) errorState (next c) ≡ next c
+divided n c pos = rw (ne-eqb n 0 (λ e. omega arith))
 
 module _ (p : ℕ) (vs : List ℕ) (t : Tables) (over : ValuesOver vs t) where
   -- a register is written
@@ -69,21 +80,17 @@ module _ (p : ℕ) (vs : List ℕ) (t : Tables) (over : ValuesOver vs t) where
   unfolding stepOf
   mulw-stepped d i o h = put-stepped d _ h (Mulw d i o) (ap (λ (us : List ℕ). next (wrote (config p vs t) d (product (valueAt us i) (operandAt us o)))) (sym over))
 
-  -- DIVF: its step is an error where the divisor is 0
+  -- DIVF
   module _ (d i : ℕ) (o : Operand) where
     divf-step : stepOf (Divf d i o) (config p vs t) ≡ cond (eqb (operandAt vs o) 0) errorState (next (wrote (config p vs t) d (nearestQuotient (valueAt vs i) (operandAt vs o))))
     unfolding stepOf
     divf-step = ap (λ (us : List ℕ). cond (eqb (operandAt us o) 0) errorState (next (wrote (config p vs t) d (nearestQuotient (valueAt us i) (operandAt us o))))) (sym over)
 
     pub divisor : (stepOf (Divf d i o) (config p vs t) ≡ errorState → ⊥) → 0 < operandAt vs o
-    divisor safe = go (ℕ-discrete (operandAt vs o) 0)
-      where
-        go : Dec (operandAt vs o ≡ 0) → 0 < operandAt vs o
-        go (yes e) = absurd (safe (divf-step ∙ rw (eq-eqb _ _ e)))
-        go (no e) = omega arith
+    divisor safe = positive (operandAt vs o) _ (λ e. safe (divf-step ∙ e))
 
     pub divf-stepped : d < registers → 0 < operandAt vs o → Stepped (Divf d i o) p vs t (p + 1) (set vs d (nearestQuotient (valueAt vs i) (operandAt vs o))) t
-    divf-stepped h pos = put-stepped d _ h (Divf d i o) (divf-step ∙ rw (ne-eqb (operandAt vs o) 0 (λ e. omega arith)))
+    divf-stepped h pos = put-stepped d _ h (Divf d i o) (divf-step ∙ divided (operandAt vs o) _ pos)
 
   -- an access outside its table is an error
   inside-room : (a : ℕ) (w : Width) (l : List ℕ) (c : Config) → (inside a w l c ≡ errorState → ⊥) → a + bytesOf w ≤ length l
@@ -133,6 +140,27 @@ module _ (p : ℕ) (vs : List ℕ) (t : Tables) (over : ValuesOver vs t) where
   pub bequ-stepped : (i u : ℕ) (o : Operand) → Stepped (Bequ i u o) p vs t (cond (eqb (valueAt vs i) (operandAt vs o)) u (p + 1)) vs t
   unfolding stepOf
   bequ-stepped i u o = went-stepped (Bequ i u o) _ (ap (λ (us : List ℕ). next (went (config p vs t) (cond (eqb (valueAt us i) (operandAt us o)) u (p + 1)))) (sym over))
+
+-- DIVM, which writes two registers
+module _ (p : ℕ) (vs : List ℕ) (t : Tables) (over : ValuesOver vs t) (q i r : ℕ) (o : Operand) where
+  divm-step : stepOf (Divm q i r o) (config p vs t) ≡ cond (eqb (operandAt vs o) 0) errorState (next (wroteBoth (config p vs t) q (quotient (valueAt vs i) (operandAt vs o)) r (remainder (valueAt vs i) (operandAt vs o))))
+  unfolding stepOf
+  divm-step = ap (λ (us : List ℕ). cond (eqb (operandAt us o) 0) errorState (next (wroteBoth (config p vs t) q (quotient (valueAt us i) (operandAt us o)) r (remainder (valueAt us i) (operandAt us o))))) (sym over)
+
+  pub divm-divisor : (stepOf (Divm q i r o) (config p vs t) ≡ errorState → ⊥) → 0 < operandAt vs o
+  divm-divisor safe = positive (operandAt vs o) _ (λ e. safe (divm-step ∙ e))
+
+  pub divm-stepped : q < registers → r < registers → 0 < operandAt vs o
+      → Stepped (Divm q i r o) p vs t (p + 1) (set (set vs q (quotient (valueAt vs i) (operandAt vs o))) r (remainder (valueAt vs i) (operandAt vs o))) t
+  divm-stepped in-q in-r pos =
+      let x = quotient (valueAt vs i) (operandAt vs o) in
+      let y = remainder (valueAt vs i) (operandAt vs o) in
+      let both : config (p + 1) (set (set vs q x) r y) t ≡ wroteBoth (config p vs t) q x r y =
+      ap (λ (l : List ℕ). record { point = p + 1; registers = l; tables = t }) (take-set-lt registers (set vs q x) r y in-r ∙ ap (λ (l : List ℕ). set l r y) (take-set-lt registers vs q x in-q)) in
+      record {
+        led = sym (ap (settled (config p vs t)) (divm-step ∙ divided (operandAt vs o) _ pos) ∙ ap at (sym both));
+        values = put-over p (set vs q x) t (put-over p vs t over q x in-q) r y in-r;
+      }
 
 -- an instruction that equals another steps as it does
 pub steppable-as : {i j : Instruction} {p : ℕ} {vs : List ℕ} {t : Tables} → i ≡ j → Steppable i p vs t → Steppable j p vs t

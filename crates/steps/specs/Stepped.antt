@@ -21,6 +21,11 @@ pub record Written (p d x : ℕ) (vs : List ℕ) (p′ : ℕ) (vs′ : List ℕ)
   pub point : p′ ≡ p + 1
   pub values : vs′ ≡ set vs d x
 
+-- on to the next point, with the register q holding x and the register r holding y
+pub record WrittenBoth (p q x r y : ℕ) (vs : List ℕ) (p′ : ℕ) (vs′ : List ℕ) : Type 0 where
+  pub point : p′ ≡ p + 1
+  pub values : vs′ ≡ set (set vs q x) r y
+
 -- what a step asks: an instruction within its limits, and that its step is no error
 pub record Steppable (i : Instruction) (p : ℕ) (vs : List ℕ) (t : Tables) : Type 0 where
   pub point : p < greatestPoints

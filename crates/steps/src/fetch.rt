@@ -8,6 +8,7 @@ use decoded::kinds::ADDW;
 use decoded::kinds::BLTU;
 use decoded::kinds::COPY;
 use decoded::kinds::DIVF;
+use decoded::kinds::DIVM;
 use decoded::kinds::JUMP;
 use decoded::kinds::LOAD;
 use decoded::kinds::MULW;
@@ -49,6 +50,14 @@ fn branch(rows: &[u64], point: usize) -> Instruction
         return Instruction::Bltu {
             i: index_at(rows, point, 2),
             t: index_at(rows, point, 4),
+            o: operand_at(rows, point),
+        };
+    }
+    if kind == DIVM {
+        return Instruction::Divm {
+            q: index_at(rows, point, 1),
+            i: index_at(rows, point, 2),
+            r: index_at(rows, point, 3),
             o: operand_at(rows, point),
         };
     }

@@ -11,6 +11,8 @@ use operations::arithmetic::address;
 use operations::arithmetic::difference;
 use operations::arithmetic::nearest_quotient_u32;
 use operations::arithmetic::product;
+use operations::arithmetic::quotient;
+use operations::arithmetic::remainder;
 use operations::bytes::load;
 use operations::bytes::store;
 ghost use mathlib.Core.Path.{_≡_};
@@ -23,7 +25,7 @@ ghost use Rattle.model.specs.Facts.{valueAt};
 ghost use Rattle.model.specs.Machine as Machine;
 ghost use Rattle.model.specs.Machine.{lent, tableOf, operandAt, bytesOf, readBytes, writeBytes, sum};
 ghost use Rattle.model.specs.Limited.{OperandLimited};
-ghost use Rattle.steps.specs.Stepped.{Written, Steppable, Stepped};
+ghost use Rattle.steps.specs.Stepped.{Written, WrittenBoth, Steppable, Stepped};
 
 // COPY: the value of a variable, written.
 fn copy(values: &mut [u32; VARIABLES], point: usize, d: usize, i: usize) -> usize
@@ -76,6 +78,27 @@ fn divide(values: &mut [u32; VARIABLES], point: usize, d: usize, i: usize, o: Op
     let y = operand_value(values, o);
     let z = nearest_quotient_u32(x, y);
     put(values, d, z, point)
+}
+
+// DIVM: the quotient rounded down and the remainder. Both are computed before either is written, since they may overwrite what is
+// divided and the divisor, which is above 0.
+fn divide_whole(
+    values: &mut [u32; VARIABLES],
+    point: usize,
+    q: usize,
+    i: usize,
+    r: usize,
+    o: Operand,
+) -> usize
+    requires { ⌜ (point < greatestPoints) × (q < registers) × (i < variables) × (r < registers) × OperandLimited o × (0 < operandAt (now values) o) ⌝ }
+    ensures { λ p. ⌜ WrittenBoth point q (Machine.quotient (valueAt (now (values .entry)) i) (operandAt (now (values .entry)) o)) r (Machine.remainder (valueAt (now (values .entry)) i) (operandAt (now (values .entry)) o)) (now (values .entry)) p (now (values .exit)) ⌝ }
+{
+    let x = values[i];
+    let y = operand_value(values, o);
+    let whole = quotient(x, y);
+    let rest = remainder(x, y);
+    values[q] = whole;
+    put(values, r, rest, point)
 }
 
 // The number that an access to a table finds.
@@ -188,5 +211,6 @@ pub fn step(
         Instruction::Jump { t } => t,
         Instruction::Bltu { i, t, o } => if_less(values, point, i, t, o),
         Instruction::Bequ { i, t, o } => if_equal(values, point, i, t, o),
+        Instruction::Divm { q, i, r, o } => divide_whole(values, point, q, i, r, o),
     }
 }

@@ -12,7 +12,7 @@ use lib.Dec.{eqb}
 use borrow.Author.Tests.{eqb-true}
 use Rattle.model.specs.declared.text.Field.{Field}
 use Rattle.model.specs.declared.text.Word.{Word}
-use Rattle.model.specs.declared.text.Word.the-variants.{Stop, Setc, Copy, Addw, Subw, Mulw, Divf, Load, Stor, Jump, Bltu, Bequ, Leas, Most, Strp}
+use Rattle.model.specs.declared.text.Word.the-variants.{Stop, Setc, Copy, Addw, Subw, Mulw, Divf, Load, Stor, Jump, Bltu, Bequ, Leas, Most, Strp, Divm}
 use Rattle.model.specs.declared.text.FoundWord.{FoundWord}
 use Rattle.model.specs.declared.text.FoundWord.the-variants.{Unknown, Known}
 use Rattle.model.specs.declared.answers.Refusal.the-variants.{LineBytes}
@@ -99,7 +99,7 @@ module _ (s : List ℕ) (k : ℕ) (t : List ℕ) (fs : List Field) (h : k * line
 pub fields-fit : (place : ℕ) (w : Word) (fs : List Field) → judged place (Known w) fs ≡ Accepted → (j : ℕ) → j < 6 → Fits (widthOf j) (fieldAt fs j)
 unfolding inShape inLimits
 fields-fit place w fs e j h =
-    let (shape, limits) = accepted place w fs e in
+    let (shape, limits, differ) = accepted place w fs e in
     accepted-fits w j h (F1 fs) (F5 fs) (fieldAt fs j)
     (every-below (λ (i : ℕ). shaped (kindAt w i) (fieldAt fs i)) 6 shape j h)
     (every-below (λ (i : ℕ). allowed (kindAt w i) (F1 fs) (F5 fs) (fieldAt fs i)) 6 limits j h)
@@ -107,7 +107,7 @@ fields-fit place w fs e j h =
 -- the place does not matter
 judged-anywhere : (place place′ : ℕ) (w : Word) (fs : List Field) → judged place (Known w) fs ≡ Accepted → judged place′ (Known w) fs ≡ Accepted
 unfolding judged
-judged-anywhere place place′ w fs e = let (shape, limits) = accepted place w fs e in rw (shape, limits)
+judged-anywhere place place′ w fs e = let (shape, limits, differ) = accepted place w fs e in rw (shape, limits, differ)
 
 -- every word gives a claim or an instruction
 word-taken : (w : Word) (fs : List Field) → isTaken (lineFrom w fs) ≡ true
@@ -126,6 +126,7 @@ word-taken Bequ fs = refl
 word-taken Leas fs = refl
 word-taken Most fs = refl
 word-taken Strp fs = refl
+word-taken Divm fs = refl
 
 -- a line that the reader takes, and why it takes it
 record Read (l : List ℕ) : Type 0 where

@@ -103,6 +103,16 @@ matched-ranges-requires c κs =
     let h = rw (c .before .before .i11 .given .1) at (c .before .before .before .before .pre .1) in
     (c .ranges-at6 .ensures .2, (h .variable, h .operand))
 
+ranges-at-requires-7 : tie.Need-ranges-at-requires-7
+ranges-at-requires-7 c κs =
+    let h = rw (c .before .i12 .given .1) at (c .before .before .before .pre .1) in
+    (c .before .before .before .pre .0, (h .arithmetic .variable, h .arithmetic .operand))
+
+division-ranges-requires : tie.Need-division-ranges-requires
+division-ranges-requires c κs =
+    let h = rw (c .before .before .i12 .given .1) at (c .before .before .before .before .pre .1) in
+    (omega (arith, h .arithmetic .register), omega (arith, h .register))
+
 returns : tie.Need-returns
 unfolding rangesAlong
 returns c = rw (c .before .enum-told .given .1) (c .unchanged .ensures)
@@ -175,6 +185,12 @@ returns-12 c =
     let h = rw told at (start .pre .1) in
     rw told (subst (Makes (c .matched-ranges .result) rs) (matched-ranges _ _ _ _ rs) (c .matched-ranges .ensures rs (among (a .low .now) (a .high .now) (start .pre .0) (h .variable)) (c .before .ranges-at6 .ensures .0)))
 
+returns-13 : tie.Need-returns-13
+unfolding rangesAlong
+returns-13 c =
+    let a = c .before .before .before .before .before .args in
+    rw (c .before .before .before .i12 .given .1) (rw (c .before .ranges-at7 .ensures .0) at (c .division-ranges .ensures (rangesOf (a .low .now) (a .high .now))))
+
 pub changes-along-spec : {M : Type 1} → statement M
 changes-along-spec =
     tie.close
@@ -217,6 +233,9 @@ changes-along-spec =
     (λ c. search needs)
     ranges-at-requires-6
     matched-ranges-requires
+    (λ c. search needs)
+    ranges-at-requires-7
+    division-ranges-requires
     returns
     returns-2
     returns-3
@@ -228,4 +247,5 @@ changes-along-spec =
     returns-9
     returns-10
     returns-11
-    returns-12)
+    returns-12
+    returns-13)

@@ -82,6 +82,11 @@ matched-stripes-requires c κs =
     let h = rw (c .before .i11 .given .1) at (c .before .before .before .pre .1) in
     (h .variable, h .operand)
 
+both-dropped-requires : tie.Need-both-dropped-requires
+both-dropped-requires c κs =
+    let h = rw (c .before .i12 .given .1) at (c .before .before .before .pre .1) in
+    (omega (arith, h .arithmetic .register), omega (arith, h .register))
+
 returns : tie.Need-returns
 unfolding stripesAlong
 returns c = rw (c .before .enum-told .given .1) (c .all .ensures)
@@ -138,6 +143,10 @@ returns-12 c =
     let does = c .matched-stripes .ensures in
     rw (told .1) (record { same = λ ss. does .same ss ∙ matched-stripes _ _ _ _ rs ss; shift = does .shift; front = does .front })
 
+returns-13 : tie.Need-returns-13
+unfolding stripesAlong
+returns-13 c = rw (c .before .before .i12 .given .1) (c .both-dropped .ensures)
+
 pub plan-along-spec : {M : Type 1} → statement M
 plan-along-spec =
     tie.close
@@ -175,6 +184,8 @@ plan-along-spec =
     ordered-stripes-requires
     (λ c. search needs)
     matched-stripes-requires
+    (λ c. search needs)
+    both-dropped-requires
     returns
     returns-2
     returns-3
@@ -186,4 +197,5 @@ plan-along-spec =
     returns-9
     returns-10
     returns-11
-    returns-12)
+    returns-12
+    returns-13)

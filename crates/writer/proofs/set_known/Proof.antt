@@ -1,4 +1,4 @@
--- 3, 4 and 5 before 18; a refusal leaves the listing. Assumes nothing.
+-- 3, 4, 5 and 19 before 18; a refusal leaves the listing. Assumes nothing.
 use Rattle.writer.proofs.LineJudged.{both-bounds, kept-if, set-if}
 use Rattle.model.specs.Answers.{isRefused}
 use native.Mathlib.Omega.{arith}

@@ -2,8 +2,8 @@
 use mathlib.Core.Path.{sym, ap}
 use native.Mathlib.Omega.{arith}
 use Rattle.model.specs.Instructions.{hasTarget}
-use Rattle.decoded.specs.Kinds.{ADDW, SUBW, MULW, DIVF, LOAD, STOR}
-use Rattle.decoded.proofs.RowInstructions.{stop-row, setc-row, copy-row, addw-row, subw-row, mulw-row, divf-row, load-row, stor-row, arithmetic-kind, access-kind, has-target}
+use Rattle.decoded.specs.Kinds.{ADDW, SUBW, MULW, DIVF, LOAD, STOR, DIVM}
+use Rattle.decoded.proofs.RowInstructions.{stop-row, setc-row, copy-row, addw-row, subw-row, mulw-row, divf-row, load-row, stor-row, divm-row, arithmetic-kind, access-kind, branch-kind, has-target}
 use Rattle.decoded.proofs.decode.has_target.Statement.{statement}
 use Rattle.decoded.proofs.decode.has_target.Tie as tie
 
@@ -35,7 +35,12 @@ returns-9 : tie.Need-returns-9
 returns-9 c = sym (ap hasTarget (access-kind (c .before .before .before .before .before .before .before .before .before .before .before .before .before .before .before .before .before .before .args .r) STOR _ (c .if9 .taken) (λ z. omega arith) (λ z. omega arith) (λ z. omega arith) (λ z. omega arith) (λ z. omega arith) (λ z. omega arith) (λ z. omega arith) (stor-row (c .before .before .before .before .before .before .before .before .before .before .before .before .before .before .before .before .before .before .args .r) (c .if9 .taken))))
 
 returns-10 : tie.Need-returns-10
-returns-10 c = sym (has-target (c .before .before .before .before .before .before .before .before .before .before .before .before .before .before .before .before .before .before .args .r) (c .before .before .before .before .before .before .before .before .before .before .before .before .before .before .before .before .if1 .left) (c .before .before .before .before .before .before .before .before .before .before .before .before .before .before .if2 .left) (c .before .before .before .before .before .before .before .before .before .before .before .before .if3 .left) (c .before .before .before .before .before .before .before .before .before .before .if4 .left) (c .before .before .before .before .before .before .before .before .if5 .left) (c .before .before .before .before .before .before .if6 .left) (c .before .before .before .before .if7 .left) (c .before .before .if8 .left) (c .if9 .left))
+returns-10 c =
+    let r = c .before .before .before .before .before .before .before .before .before .before .before .before .before .before .before .before .before .before .before .before .args .r in
+    sym (ap hasTarget (branch-kind r DIVM _ (c .if10 .taken) (λ z. omega arith) (λ z. omega arith) (λ z. omega arith) (λ z. omega arith) (λ z. omega arith) (λ z. omega arith) (λ z. omega arith) (λ z. omega arith) (λ z. omega arith) (divm-row r (c .if10 .taken))))
+
+returns-11 : tie.Need-returns-11
+returns-11 c = sym (has-target (c .before .before .before .before .before .before .before .before .before .before .before .before .before .before .before .before .before .before .before .before .args .r) (c .before .before .before .before .before .before .before .before .before .before .before .before .before .before .before .before .before .before .if1 .left) (c .before .before .before .before .before .before .before .before .before .before .before .before .before .before .before .before .if2 .left) (c .before .before .before .before .before .before .before .before .before .before .before .before .before .before .if3 .left) (c .before .before .before .before .before .before .before .before .before .before .before .before .if4 .left) (c .before .before .before .before .before .before .before .before .before .before .if5 .left) (c .before .before .before .before .before .before .before .before .if6 .left) (c .before .before .before .before .before .before .if7 .left) (c .before .before .before .before .if8 .left) (c .before .before .if9 .left) (c .if10 .left))
 
 pub has-target-spec : {M : Type 1} → statement M
-has-target-spec = tie.close (tie.spec returns returns-2 returns-3 returns-4 returns-5 returns-6 returns-7 returns-8 returns-9 returns-10)
+has-target-spec = tie.close (tie.spec returns returns-2 returns-3 returns-4 returns-5 returns-6 returns-7 returns-8 returns-9 returns-10 returns-11)

@@ -1,7 +1,7 @@
 -- Each row is that of the definitions. Assumes nothing.
 use mathlib.Core.Path.{_∙_, refl}
 use mathlib.Core.List.{[], _∷_}
-use Rattle.model.specs.declared.text.Word.the-variants.{Stop, Setc, Copy, Addw, Subw, Mulw, Divf, Load, Stor, Jump, Bltu, Bequ, Leas, Most, Strp}
+use Rattle.model.specs.declared.text.Word.the-variants.{Stop, Setc, Copy, Addw, Subw, Mulw, Divf, Load, Stor, Jump, Bltu, Bequ, Leas, Most, Strp, Divm}
 use Rattle.model.specs.Words.{fieldsOf}
 use Rattle.lines.proofs.GreatestFault.{row-fault}
 use borrow.Author.Needs.{needs}
@@ -57,6 +57,11 @@ returns-10 : tie.Need-returns-10
 unfolding fieldsOf
 returns-10 c =
     c .greatest10 .ensures ∙ row-fault Strp [] refl _ _ (search) (search) (search) (search) (search) (search) (c .before .bound .ensures _ _)
+
+returns-11 : tie.Need-returns-11
+unfolding fieldsOf
+returns-11 c =
+    c .greatest11 .ensures ∙ row-fault Divm [] refl _ _ (search) (search) (search) (search) (search) (search) (c .before .operand3 .ensures _)
 
 pub fault-in-spec : {M : Type 1} → statement M
 fault-in-spec =
@@ -145,6 +150,14 @@ fault-in-spec =
     (λ c κs. search)
     (λ c κs. search)
     (λ c κs. search)
+    (λ c. search)
+    (λ c κs. search)
+    (λ c κs. search)
+    (λ c κs. search)
+    (λ c κs. search)
+    (λ c κs. search)
+    (λ c κs. search)
+    (λ c κs. search)
     returns
     returns-2
     returns-3
@@ -154,4 +167,5 @@ fault-in-spec =
     returns-7
     returns-8
     returns-9
-    returns-10)
+    returns-10
+    returns-11)

@@ -18,7 +18,11 @@ returns-3 c = simp (c .if3 .taken, ← c .before .begins-with3 .ensures, c .befo
 
 returns-4 : tie.Need-returns-4
 unfolding wordAmong
-returns-4 c = simp (c .if3 .left, ← c .before .begins-with3 .ensures, c .before .before .if2 .left, ← c .before .before .before .begins-with2 .ensures, c .before .before .before .before .if1 .left, ← c .before .before .before .before .before .begins-with .ensures)
+returns-4 c = simp (c .if4 .taken, ← c .before .begins-with4 .ensures, c .before .before .if3 .left, ← c .before .before .before .begins-with3 .ensures, c .before .before .before .before .if2 .left, ← c .before .before .before .before .before .begins-with2 .ensures, c .before .before .before .before .before .before .if1 .left, ← c .before .before .before .before .before .before .before .begins-with .ensures)
+
+returns-5 : tie.Need-returns-5
+unfolding wordAmong
+returns-5 c = simp (c .if4 .left, ← c .before .begins-with4 .ensures, c .before .before .if3 .left, ← c .before .before .before .begins-with3 .ensures, c .before .before .before .before .if2 .left, ← c .before .before .before .before .before .begins-with2 .ensures, c .before .before .before .before .before .before .if1 .left, ← c .before .before .before .before .before .before .before .begins-with .ensures)
 
 pub find-claim-spec : {M : Type 1} → statement M
 find-claim-spec =
@@ -30,4 +34,6 @@ find-claim-spec =
     returns-2
     (λ c κs. search needs)
     returns-3
-    returns-4)
+    (λ c κs. search needs)
+    returns-4
+    returns-5)

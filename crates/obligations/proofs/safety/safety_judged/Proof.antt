@@ -24,6 +24,11 @@ access-judged-requires-2 c κs =
     let limited = subst Limited (c .before .i3 .given .1) (c .before .before .before .pre .1) in
     (c .before .before .before .pre .0, limited .1)
 
+divisor-judged-requires-2 : tie.Need-divisor-judged-requires-2
+divisor-judged-requires-2 c κs =
+    let limited = subst Limited (c .before .i4 .given .1) (c .before .before .before .pre .1) in
+    (c .before .before .before .pre .0, limited .arithmetic .operand)
+
 returns : tie.Need-returns
 unfolding safetyJudged
 returns c = rw (c .enum-told .given .1)
@@ -72,6 +77,10 @@ returns-12 : tie.Need-returns-12
 unfolding safetyJudged
 returns-12 c = rw (c .enum-told9 .given .1)
 
+returns-13 : tie.Need-returns-13
+unfolding safetyJudged
+returns-13 c = rw (c .before .before .i4 .given .1) (c .divisor-judged2 .ensures)
+
 pub safety-judged-spec : {M : Type 1} → statement M
 safety-judged-spec =
     tie.close
@@ -91,6 +100,8 @@ safety-judged-spec =
     (λ c. search needs)
     (λ c. search needs)
     (λ c. search needs)
+    (λ c. search needs)
+    divisor-judged-requires-2
     returns
     returns-2
     returns-3
@@ -102,4 +113,5 @@ safety-judged-spec =
     returns-9
     returns-10
     returns-11
-    returns-12)
+    returns-12
+    returns-13)

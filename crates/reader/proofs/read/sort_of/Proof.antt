@@ -39,6 +39,8 @@ sort-of-spec =
     (λ c. search needs)
     (λ c. search needs)
     (λ c. search needs)
+    (λ c. search needs)
     returns-13
     returns-14
+    (λ c. search needs)
     (λ c. search needs))

@@ -1,4 +1,4 @@
-use Rattle.steps.proofs.InstructionSteps.{divisor, load-room, stor-room, stop-stepped, setc-stepped, copy-stepped, addw-stepped, subw-stepped, mulw-stepped, divf-stepped, load-stepped, stor-stepped, jump-stepped, bltu-stepped, bequ-stepped, steppable-as, stepped-as}
+use Rattle.steps.proofs.InstructionSteps.{divisor, load-room, stor-room, stop-stepped, setc-stepped, copy-stepped, addw-stepped, subw-stepped, mulw-stepped, divf-stepped, load-stepped, stor-stepped, jump-stepped, bltu-stepped, bequ-stepped, divm-divisor, divm-stepped, steppable-as, stepped-as}
 use borrow.Author.Needs.{needs}
 use Rattle.steps.proofs.step.step.Statement.{statement}
 use Rattle.steps.proofs.step.step.Tie as tie
@@ -55,6 +55,11 @@ if-equal-requires : tie.Need-if-equal-requires
 if-equal-requires c κs =
     let h = steppable-as (c .before .before .instruction11 .given .1) (c .before .before .before .before .before .before .pre) in
     (h .point, h .limited .variable, h .limited .operand)
+
+divide-whole-requires : tie.Need-divide-whole-requires
+divide-whole-requires c κs =
+    let h = steppable-as (c .before .before .instruction12 .given .1) (c .before .before .before .before .before .before .pre) in
+    (h .point, h .limited .arithmetic .register, h .limited .arithmetic .variable, h .limited .register, h .limited .arithmetic .operand, divm-divisor _ _ _ (h .values) _ _ _ _ (h .safe))
 
 returns : tie.Need-returns
 returns c =
@@ -126,6 +131,12 @@ returns-12 c =
     let h = steppable-as e (c .before .before .before .before .before .before .before .pre) in
     rw (c .if-equal .ensures) (stepped-as e (bequ-stepped _ _ _ (h .values) _ _ _))
 
+returns-13 : tie.Need-returns-13
+returns-13 c =
+    let e = c .before .before .before .instruction12 .given .1 in
+    let h = steppable-as e (c .before .before .before .before .before .before .before .pre) in
+    rw (c .divide-whole .ensures .point, c .divide-whole .ensures .values) (stepped-as e (divm-stepped _ _ _ (h .values) _ _ _ _ (h .limited .arithmetic .register) (h .limited .register) (divm-divisor _ _ _ (h .values) _ _ _ _ (h .safe))))
+
 pub step-spec : {M : Type 1} → statement M
 step-spec =
     tie.close
@@ -152,6 +163,8 @@ step-spec =
     if-less-requires
     (λ c. search needs)
     if-equal-requires
+    (λ c. search needs)
+    divide-whole-requires
     returns
     returns-2
     returns-3
@@ -165,4 +178,5 @@ step-spec =
     returns-9
     returns-10
     returns-11
-    returns-12)
+    returns-12
+    returns-13)
