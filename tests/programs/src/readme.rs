@@ -9,16 +9,19 @@ use std::process::Command;
 
 pub fn tests() -> Vec<Test> {
     vec![
-        ("README's run prints what README shows", || prints("readme_run", "Run a listing", 0)),
-        ("README's listing that is turned back, and redone", || prints("readme_line", "How to read the line", 1)),
+        ("README's run prints what README shows", || prints("readme_run", "Run a listing", 0, 0)),
+        ("README's listing that is turned back, and redone", || prints("readme_line", "How to read the line", 0, 1)),
+        ("README's division with one register, and with two", || prints("readme_same", "How to read the line", 1, 1)),
+        ("README's seeds dealt into packets", || prints("readme_packets", "How to read the line", 2, 0)),
     ]
 }
 
-/// The first code of a chapter, with this folder in place of /tmp, prints its second code and ends with the status.
-fn prints(folder: &str, chapter: &str, status: i32) -> Result<(), String> {
+/// The commands that a chapter shows after so many others, with this folder in place of /tmp, print the code that follows them and end
+/// with the status.
+fn prints(folder: &str, chapter: &str, others: usize, status: i32) -> Result<(), String> {
     let text = fs::read_to_string(root().join("README.md")).expect("README.md is there");
     let (_, text) = text.split_once(&format!("\n## {chapter}\n")).ok_or("README has no such chapter")?;
-    let mut codes = text.split("\n\n").filter_map(code);
+    let mut codes = text.split("\n\n").filter_map(code).skip(2 * others);
     let (commands, lines) = codes.next().zip(codes.next()).ok_or("README shows nothing")?;
     let folder = Folder::new(folder);
     for name in ["run-listing", "check-listing"] {

@@ -35,12 +35,12 @@ fn row(number: u64) -> Option<(String, String)> {
     Some((found[2].clone(), found[3].clone()))
 }
 
-/// A listing for each of the refusals 1 to 14, the first of them for 1.
-fn listings() -> Vec<Vec<u8>> {
+/// A listing for each of the refusals of a listing, with its number: 1 to 14, and 19.
+fn listings() -> impl Iterator<Item = (u64, Vec<u8>)> {
     let example = |name: &str| fs::read(root().join("examples").join(name)).expect("the example is there");
     let mut escape = listing("STOP; STOP; STOP");
     escape[LINE + 9] = 27;
-    vec![
+    let listings = vec![
         Vec::new(),
         escape,
         listing("STOP; HALT 1 2"),
@@ -55,14 +55,16 @@ fn listings() -> Vec<Vec<u8>> {
         example("c04.lst"),
         example("c09.lst"),
         example("c06q5.lst"),
-    ]
+        example("packets_same.lst"),
+    ];
+    (1..=14).chain([19]).zip(listings)
 }
 
 /// No program gives 18, so that its row is held to the definition of the words; all others are too.
 fn table_is_whole() -> Result<(), String> {
     let path = root().join("crates/explained/specs/Explanation.antt");
     let words = fs::read_to_string(path).expect("the words of the refusals are there");
-    (1..=18).try_for_each(|number| {
+    (1..=19).try_for_each(|number| {
         let (meaning, advice) = row(number).ok_or_else(|| format!("no row for {number}"))?;
         [meaning, advice].iter().try_for_each(|text| {
             ensure(words.contains(&format!("= bytes \"{text}\"\n")), || format!("not the words of {number}: {text}"))
@@ -109,7 +111,7 @@ fn is_checked(folder: &Folder, name: &str, number: u64) -> Result<(), String> {
 
 fn checked() -> Result<(), String> {
     let folder = Folder::new("words_checked");
-    for (number, bytes) in (1..).zip(listings()) {
+    for (number, bytes) in listings() {
         folder.put("listing", &bytes);
         is_checked(&folder, "listing", number)?;
     }
@@ -132,9 +134,7 @@ fn is_refused(folder: &Folder, call: &Call, number: u64, file: &str) -> Result<(
 fn run() -> Result<(), String> {
     let folder = Folder::new("words_run");
     let call = counting(1);
-    (1..)
-        .zip(listings())
-        .try_for_each(|(number, bytes)| is_refused(&folder, &call.with_listing(&bytes), number, "listing"))
+    listings().try_for_each(|(number, bytes)| is_refused(&folder, &call.with_listing(&bytes), number, "listing"))
 }
 
 fn tables_and_states() -> Result<(), String> {
