@@ -39,10 +39,10 @@ isMade Stopped = true
 isMade Paused = true
 isMade (refusedRun r) = false
 
--- the argument with the file that the refusal of a number is about: for 15 the trays where these are too long and else the results, the
--- state for 16 and 17, and the listing for all others, 1 to 14 and 19
+-- the argument with the file that the refusal of a number is about: the state for 16 and 17, for 15 the trays where these are too long and
+-- else the results, and the listing for all others, 1 to 14 and 19
 abbrev pub fileOf : ℕ → ℕ → ℕ
-fileOf number trays = cond (eqb number 15) (cond (ltb greatestSize trays) 2 3) (cond (eqb number 16 || eqb number 17) 4 1)
+fileOf number trays = cond (eqb number 16 || eqb number 17) 4 (cond (eqb number 15) (cond (ltb greatestSize trays) 2 3) 1)
 
 -- what a run leaves: its report, the bytes of the results, the text of the state, and the line
 pub record Leaves (r : Ran) (report : Report) (rs text line : List ℕ) : Type 0 where

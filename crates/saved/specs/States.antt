@@ -1,5 +1,5 @@
 -- A state as text: 17 lines of 40 bytes in a listing's own form, a JUMP to the point and then a SETC for each register, in order.
--- Every line is judged by 2 to 5, as a line of a listing is; a text that is anything else is no state.
+-- Every line is judged by 2 to 5 and 19, as a line of a listing is; a text that is anything else is no state.
 use Prim.Native.Nat.{ℕ, zero, suc, _+_, _<_, _≤_}
 use mathlib.Core.Path.{_≡_}
 use mathlib.Core.Bool.{Bool, true, false, _&&_, not, cond}

@@ -134,8 +134,8 @@ pub fn claim_lines(listing: &[u8], point: usize) -> Result<&[u8], Refusal> {
     Ok(&listing[offset as usize..][..length as usize])
 }
 
-/// Writes one line of the listing, counted from 1, and leaves every other byte. A refusal, 3 to 5 with the line as its
-/// place or 18, leaves all of them. The listing may have any length.
+/// Writes one line of the listing, counted from 1, and leaves every other byte. A refusal, 3 to 5 or 19 with the line
+/// as its place or 18, leaves all of them. The listing may have any length.
 pub fn set_line(listing: &mut [u8], line: usize, word: &[u8], fields: [Field; 6]) -> Result<(), Refusal> {
     let parts = fields.map(|field| match field {
         Field::Blank => (0, 0),

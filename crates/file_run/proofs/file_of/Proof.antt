@@ -4,16 +4,16 @@ use Rattle.file_run.proofs.file_of.Statement.{statement}
 use Rattle.file_run.proofs.file_of.Tie as tie
 
 returns : tie.Need-returns
-returns c = search
+returns c = rw (c .if1 .taken)
 
 returns-2 : tie.Need-returns-2
-returns-2 c = simp (ne-eqb _ _ (c .if2 .taken), c .before .if1 .left)
+returns-2 c = rw (c .before .if1 .left, ne-eqb _ _ (c .if2 .taken))
 
 returns-3 : tie.Need-returns-3
-returns-3 c = simp (lt-ltb _ _ (c .if3 .taken), eq-eqb _ _ (c .before .if2 .left))
+returns-3 c = rw (c .before .before .if1 .left, eq-eqb _ _ (c .before .if2 .left), lt-ltb _ _ (c .if3 .taken))
 
 returns-4 : tie.Need-returns-4
-returns-4 c = simp (le-ltb _ _ (c .if3 .left), eq-eqb _ _ (c .before .if2 .left))
+returns-4 c = rw (c .before .before .if1 .left, eq-eqb _ _ (c .before .if2 .left), le-ltb _ _ (c .if3 .left))
 
 pub file-of-spec : {M : Type 1} → statement M
 file-of-spec = tie.close (tie.spec returns returns-2 returns-3 returns-4)
