@@ -53,6 +53,19 @@ pub fn typical(points: usize) -> Vec<u8> {
     draft.text()
 }
 
+/// As many points as fit, in threes: a remainder by a number, a store at the place that it gives, and a remainder by a
+/// register.
+pub fn remainders() -> Vec<u8> {
+    let (least, kept) = ("LEAS 3 _ _ _ _ 1; LEAS 17 _ _ _ _ 12;", "STRP 17 4 1 _ _ 0;");
+    let three = listing(&format!(
+        "{least} {kept} DIVM 4 2 5 _ 1 12; {least} MOST 5 _ _ _ _ 11; {kept} STOR 4 1 _ 1 5 0;
+         {least} {kept} DIVM 2 4 6 _ 0 3"
+    ));
+    let mut text = three.repeat((MOST_LINES * LINE - LINE) / three.len());
+    text.extend(listing("STOP"));
+    text
+}
+
 /// Where the only link that helps stands among those that a search goes through.
 #[derive(Clone, Copy, PartialEq, Eq)]
 pub enum KeyLink {

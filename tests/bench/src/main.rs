@@ -7,7 +7,7 @@ mod runs;
 mod set_lines;
 mod timing;
 
-use listings::{longest, small, typical, worst, KeyLink};
+use listings::{longest, remainders, small, typical, worst, KeyLink};
 use reference::refusals::RUNS_OFF_THE_END;
 use rows::{print_row, Rows};
 use timing::ratio;
@@ -38,6 +38,7 @@ fn print_checks(rows: &mut Rows) {
         ("worst, links all over, key link tried last", worst(KeyLink::Last, false), PASSES),
         ("worst, equal links, key link tried first", worst(KeyLink::First, true), PASSES),
         ("worst, equal links, key link tried last", worst(KeyLink::Last, true), PASSES),
+        ("remainders, 376 points", remainders(), PASSES),
     ];
     rows.table("listings", "lines");
     for (name, listing, expected) in &listings {

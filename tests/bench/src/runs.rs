@@ -52,6 +52,17 @@ fn quotients() -> Timed {
     Timed { listing, count: 35_000, table: 0, budget: u32::MAX }
 }
 
+/// A loop of quotients with their remainders, one of which takes the place of the number divided.
+fn quotients_and_remainders() -> Timed {
+    let kept = "LEAS 3 _ _ _ _ 1;";
+    let listing = listing(&format!(
+        "{kept} SETC 0 _ _ _ _ 0; {kept} BLTU _ 0 _ 3 0 1; STOP; {kept} ADDW 2 2 _ _ 1 2654435769;
+         {kept} DIVM 4 2 5 _ 1 10; {kept} MOST 5 _ _ _ _ 9; DIVM 6 2 7 _ 0 3; {kept} DIVM 8 2 2 _ 1 4294967295;
+         {kept} ADDW 0 0 _ _ 1 1; {kept} JUMP _ _ _ 1"
+    ));
+    Timed { listing, count: 35_000, table: 0, budget: u32::MAX }
+}
+
 /// A call that pauses soon.
 fn short(listing: Vec<u8>) -> Timed {
     Timed { listing, count: 20, table: 256, budget: 10 }
@@ -65,6 +76,7 @@ pub fn print_runs(rows: &mut Rows) {
         ("loads of 4 bytes", access_loop(TRAYS, 4, "LOAD 2 4 0 1 0 0")),
         ("arithmetic", arithmetic()),
         ("quotients", quotients()),
+        ("quotients and remainders", quotients_and_remainders()),
         ("budget 10, 6 points", short(small())),
         ("budget 10, 512 points", short(typical(512))),
     ];

@@ -17,6 +17,13 @@ pub struct Stripe {
     pub b: i64,
 }
 
+impl Stripe {
+    #[inline]
+    fn names(&self, v: u8) -> bool {
+        self.x == v || self.y == v || self.z == v
+    }
+}
+
 /// hi has one place more, for a blank z, whose greatest value is 0.
 #[derive(Clone, Copy)]
 pub struct Facts {
@@ -113,7 +120,7 @@ impl Facts {
     #[inline]
     pub fn write(&mut self, d: u8, lo: i64, hi: i64) {
         self.set(d, lo, hi);
-        self.retain(|stripe| stripe.x != d && stripe.y != d && stripe.z != d);
+        self.retain(|stripe| !stripe.names(d));
     }
 
     #[inline]
@@ -248,5 +255,17 @@ impl Facts {
             return;
         }
         self.set(i, lo + i64::from(lo == lo_o), hi - i64::from(hi == lo_o));
+    }
+
+    /// False where no step is possible. All ends are taken first, as q or r may be i or o.
+    pub fn div_mod(&mut self, q: u8, i: u8, r: u8, o: Operand) -> bool {
+        let ((lo, hi), (lo_o, hi_o)) = (self.ends(Operand::Variable(i)), self.ends(o));
+        if hi_o == 0 {
+            return false;
+        }
+        self.set(q, lo / hi_o, hi / lo_o.max(1));
+        self.set(r, 0, hi.min(hi_o - 1));
+        self.retain(|stripe| !stripe.names(q) && !stripe.names(r));
+        true
     }
 }

@@ -39,14 +39,14 @@ pub fn check(text: &[u8]) -> Answer {
     })
 }
 
-/// Refusals 1 to 14.
+/// Refusals 1 to 14 and 19.
 fn checked<'a>(text: &[u8], points: &'a mut [Point], claims: &'a mut [Claim]) -> Result<Listing<'a>, Answer> {
     let listing = read(text, points, claims)?;
     walk::walk(&listing)?;
     Ok(listing)
 }
 
-/// Number 0 and where the claim lines of a point stand in the listing, in bytes, else the refusal, 1 to 11 or 16.
+/// Number 0 and where the claim lines of a point stand in the listing, in bytes, else the refusal, 1 to 11, 19 or 16.
 #[derive(Clone, Copy, Debug, PartialEq, Eq)]
 pub struct Part {
     pub number: u64,

@@ -1,6 +1,6 @@
-//! One line of 40 bytes: the instruction or the claim it holds, or the number of its refusal, 2 to 5.
+//! One line of 40 bytes: the instruction or the claim it holds, or the number of its refusal, 2 to 5 or 19.
 
-use reference::refusals::{BAD_BYTE, BAD_SHAPE, OUT_OF_LIMITS, UNKNOWN_WORD};
+use reference::refusals::{BAD_BYTE, BAD_SHAPE, ONE_REGISTER_TWICE, OUT_OF_LIMITS, UNKNOWN_WORD};
 
 pub const LINE: usize = 40;
 pub const MAX: u64 = u32::MAX as u64;
@@ -34,6 +34,7 @@ pub enum Instruction {
     Jump { target: u16 },
     Less { i: u8, target: u16, o: Operand },
     Equal { i: u8, target: u16, o: Operand },
+    DivMod { q: u8, i: u8, r: u8, o: Operand },
 }
 
 /// The fields of a stripe stand in the choice itself, so that a claim takes 16 bytes and not 24.
@@ -50,6 +51,9 @@ pub enum Line {
     Instruction(Instruction),
     Claim(Claim),
 }
+
+/// What was read, or the number of its refusal.
+pub type Taken<T> = Result<T, u64>;
 
 /// The numbers of F1 to F6, any where a field is blank, and which are filled, a bit each from F1 up.
 pub struct Fields {
@@ -77,6 +81,7 @@ const BEQU: u32 = word(b"BEQU");
 const LEAS: u32 = word(b"LEAS");
 const MOST: u32 = word(b"MOST");
 pub const STRP: u32 = word(b"STRP");
+const DIVM: u32 = word(b"DIVM");
 
 /// Which fields must be filled, a bit each from F1 up; STRP's F4 may be either.
 #[inline]
@@ -91,15 +96,15 @@ pub fn due(word: u32) -> Option<u8> {
         JUMP => 0b001000,
         BLTU | BEQU => 0b111010,
         STRP => 0b100111,
+        DIVM => 0b110111,
         _ => return None,
     })
 }
 
 pub const STRIPE_Z: u8 = 0b001000;
 
-/// The line, or the number of its refusal.
 #[inline]
-pub fn read_line(line: &[u8; LINE]) -> Result<Line, u64> {
+pub fn read_line(line: &[u8; LINE]) -> Taken<Line> {
     // the greatest of all bytes, counted from the space on, is found for many bytes at once
     let greatest = line[..39].iter().fold(0, |greatest: u8, byte| greatest.max(byte.wrapping_sub(b' ')));
     if greatest > b'~' - b' ' || line[39] != b'\n' {
@@ -112,7 +117,7 @@ pub fn read_line(line: &[u8; LINE]) -> Result<Line, u64> {
     if (fields.filled ^ due) & !optional != 0 || (fields.minus && word != STRP) {
         return Err(BAD_SHAPE);
     }
-    meaning(word, &fields).ok_or(OUT_OF_LIMITS)
+    meaning(word, &fields)
 }
 
 #[inline]
@@ -169,9 +174,9 @@ fn read_digits(digits: &[u8]) -> Option<u64> {
     Some(number)
 }
 
-/// The line of a word whose fields are filled as is due, if every number is within its limits.
+/// The line of a word whose fields are filled as is due.
 #[inline]
-pub fn meaning(word: u32, fields: &Fields) -> Option<Line> {
+pub fn meaning(word: u32, fields: &Fields) -> Taken<Line> {
     let f = &fields.numbers;
     let instruction = match word {
         STRP => return stripe(fields).map(Line::Claim),
@@ -194,68 +199,84 @@ pub fn meaning(word: u32, fields: &Fields) -> Option<Line> {
         }
         JUMP => Instruction::Jump { target: target(f[3])? },
         BLTU => Instruction::Less { i: variable(f[1])?, target: target(f[3])?, o: operand(f)? },
-        _ => Instruction::Equal { i: variable(f[1])?, target: target(f[3])?, o: operand(f)? },
+        BEQU => Instruction::Equal { i: variable(f[1])?, target: target(f[3])?, o: operand(f)? },
+        _ => div_mod(f)?,
     };
-    Some(Line::Instruction(instruction))
+    Ok(Line::Instruction(instruction))
 }
 
 #[inline]
-fn stripe(fields: &Fields) -> Option<Claim> {
+fn stripe(fields: &Fields) -> Taken<Claim> {
     let f = &fields.numbers;
     let z = if fields.filled & STRIPE_Z == 0 { BLANK } else { variable(f[3])? };
     let size = upto(f[5], BOUND_LIMIT)? as i64;
     let b = if fields.minus { -size } else { size };
-    Some(Claim::Stripe { x: variable(f[0])?, a: scale(f[1])?, y: variable(f[2])?, z, b })
+    Ok(Claim::Stripe { x: variable(f[0])?, a: scale(f[1])?, y: variable(f[2])?, z, b })
 }
 
 /// The variable and the value of LEAS or MOST.
 #[inline]
-fn range_end(f: &[u64; 6]) -> Option<(u8, i64)> {
+fn range_end(f: &[u64; 6]) -> Taken<(u8, i64)> {
     let v = variable(f[0])?;
     let value = upto(f[5], if v < TRAYS_SIZE { MAX } else { SIZE_LIMIT })?;
-    Some((v, value as i64))
+    Ok((v, value as i64))
 }
 
 #[inline]
-fn upto(number: u64, most: u64) -> Option<u64> {
-    (number <= most).then_some(number)
+fn taken<T>(within_limits: bool, value: T) -> Taken<T> {
+    within_limits.then_some(value).ok_or(OUT_OF_LIMITS)
 }
 
 #[inline]
-fn register(number: u64) -> Option<u8> {
-    (number < u64::from(TRAYS_SIZE)).then_some(number as u8)
+fn upto(number: u64, most: u64) -> Taken<u64> {
+    taken(number <= most, number)
 }
 
 #[inline]
-fn variable(number: u64) -> Option<u8> {
-    (number < u64::from(BLANK)).then_some(number as u8)
+fn register(number: u64) -> Taken<u8> {
+    taken(number < u64::from(TRAYS_SIZE), number as u8)
 }
 
 #[inline]
-fn target(number: u64) -> Option<u16> {
-    (number <= GREATEST_TARGET).then_some(number as u16)
+fn variable(number: u64) -> Taken<u8> {
+    taken(number < u64::from(BLANK), number as u8)
 }
 
 #[inline]
-fn offset(number: u64) -> Option<u16> {
-    (number <= GREATEST_OFFSET).then_some(number as u16)
+fn target(number: u64) -> Taken<u16> {
+    taken(number <= GREATEST_TARGET, number as u16)
 }
 
 #[inline]
-fn scale(number: u64) -> Option<u8> {
-    (1..=255).contains(&number).then_some(number as u8)
+fn offset(number: u64) -> Taken<u16> {
+    taken(number <= GREATEST_OFFSET, number as u16)
 }
 
 #[inline]
-fn width(number: u64) -> Option<u8> {
-    matches!(number, 1 | 2 | 4).then_some(number as u8)
+fn scale(number: u64) -> Taken<u8> {
+    taken((1..=255).contains(&number), number as u8)
 }
 
 #[inline]
-fn operand(f: &[u64; 6]) -> Option<Operand> {
+fn width(number: u64) -> Taken<u8> {
+    taken(matches!(number, 1 | 2 | 4), number as u8)
+}
+
+#[inline]
+fn operand(f: &[u64; 6]) -> Taken<Operand> {
     match f[4] {
         0 => variable(f[5]).map(Operand::Variable),
         1 => upto(f[5], MAX).map(|number| Operand::Number(number as u32)),
-        _ => None,
+        _ => Err(OUT_OF_LIMITS),
     }
+}
+
+/// The registers are compared last: 19 comes after 5.
+#[inline]
+fn div_mod(f: &[u64; 6]) -> Taken<Instruction> {
+    let (q, i, r, o) = (register(f[0])?, variable(f[1])?, register(f[2])?, operand(f)?);
+    if q == r {
+        return Err(ONE_REGISTER_TWICE);
+    }
+    Ok(Instruction::DivMod { q, i, r, o })
 }

@@ -1,4 +1,5 @@
-//! A listing read in one pass: its points, and its claims in a compact form that is not parsed again. Refusals 1 to 11.
+//! A listing read in one pass: its points, and its claims in a compact form that is not parsed again.
+//! Refusals 1 to 11 and 19.
 
 use crate::facts::Facts;
 use crate::line::{read_line, Claim, Instruction, Line, LINE};
@@ -79,7 +80,7 @@ pub fn read<'a>(text: &[u8], points: &'a mut [Point], claims: &'a mut [Claim]) -
     Ok(listing)
 }
 
-/// Refusals 2 to 8; the number of points where there is none.
+/// Refusals 2 to 8 and 19; the number of points where there is none.
 fn read_lines(text: &[u8], points: &mut [Point], claims: &mut [Claim]) -> Result<usize, Answer> {
     let (mut count, mut order, mut surplus) = (0, Order::default(), 0);
     for (at, line) in text.as_chunks::<LINE>().0.iter().enumerate() {

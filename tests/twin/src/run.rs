@@ -103,6 +103,7 @@ fn step(instruction: &Instruction, at: usize, values: &mut Values, trays: &[u8],
         Operand::Variable(v) => value(v),
         Operand::Number(number) => number,
     };
+    let address = |scale: u8, i: u8, offset: u16| scale as usize * value(i) as usize + offset as usize;
     let (d, written) = match *instruction {
         Instruction::Stop => return None,
         Instruction::Set { d, number } => (d, number),
@@ -112,13 +113,11 @@ fn step(instruction: &Instruction, at: usize, values: &mut Values, trays: &[u8],
         Instruction::Multiply { d, i, o } => (d, value(i).wrapping_mul(operand(o))),
         Instruction::Divide { d, i, o } => (d, nearest(u64::from(value(i)), u64::from(operand(o))) as u32),
         Instruction::Load { d, width, size, scale, i, offset } => {
-            let address = scale as usize * value(i) as usize + offset as usize;
             let table = if size == TRAYS_SIZE { trays } else { &*results };
-            (d, load(table, address, width))
+            (d, load(table, address(scale, i, offset), width))
         }
         Instruction::Store { stored, width, scale, i, offset } => {
-            let address = scale as usize * value(i) as usize + offset as usize;
-            store(results, address, width, value(stored));
+            store(results, address(scale, i, offset), width, value(stored));
             return Some(at + 1);
         }
         Instruction::Jump { target } => return Some(target as usize),
@@ -127,6 +126,11 @@ fn step(instruction: &Instruction, at: usize, values: &mut Values, trays: &[u8],
         }
         Instruction::Equal { i, target, o } => {
             return Some(if value(i) == operand(o) { target as usize } else { at + 1 });
+        }
+        Instruction::DivMod { q, i, r, o } => {
+            let (i, o) = (value(i), operand(o));
+            values[r as usize] = i % o;
+            (q, i / o)
         }
     };
     values[d as usize] = written;

@@ -1,9 +1,9 @@
 //! Sets one line from its word and fields: the fields are tested with what the reader uses, then written from the right.
-//! Refusals 3 to 5 and 18.
+//! Refusals 3 to 5, 19 and 18.
 
 use crate::line::{due, meaning, Fields, LINE, STRIPE_Z, STRP};
 use crate::read::MOST_LINES;
-use reference::refusals::{BAD_SHAPE, NO_SUCH_LINE, OUT_OF_LIMITS, UNKNOWN_WORD};
+use reference::refusals::{BAD_SHAPE, NO_SUCH_LINE, UNKNOWN_WORD};
 
 const NUMBER: u8 = 1;
 const NEGATIVE: u8 = 2;
@@ -35,7 +35,7 @@ pub fn set_line(word: &[u8], kinds: &[u8; 6], numbers: &[u64; 6], line: usize, l
     }
 }
 
-/// The word and fields of a line that a reader takes. Refusals 3 to 5.
+/// The word and fields of a line that a reader takes. Refusals 3 to 5 and 19.
 #[inline]
 fn tested(word: &[u8], kinds: &[u8; 6], numbers: &[u64; 6]) -> Result<([u8; 4], Fields), u64> {
     let word: [u8; 4] = word.try_into().map_err(|_| UNKNOWN_WORD)?;
@@ -46,7 +46,7 @@ fn tested(word: &[u8], kinds: &[u8; 6], numbers: &[u64; 6]) -> Result<([u8; 4], 
     if (fields.filled ^ due) & !optional != 0 || (fields.minus && code != STRP) {
         return Err(BAD_SHAPE);
     }
-    meaning(code, &fields).ok_or(OUT_OF_LIMITS)?;
+    meaning(code, &fields)?;
     Ok((word, fields))
 }
 
