@@ -3,7 +3,7 @@
 use crate::edges::edges;
 use crate::follows::{claim_follows, goal_follows, LINKS};
 use crate::known::Known;
-use crate::line::{Arithmetic, Instruction, Operand, Stripe, Whole, RESULTS_SIZE, TRAYS_SIZE};
+use crate::line::{Instruction, Operand, Stripe, Whole, RESULTS_SIZE, TRAYS_SIZE};
 use crate::listing::{read, Listing, Refusal};
 use crate::refusals::{ACCESS_MAY_LEAVE, CLAIM_DOES_NOT_FOLLOW, DIVISOR_MAY_BE_ZERO};
 
@@ -23,7 +23,7 @@ pub fn check(listing: &[u8]) -> Answer {
     }
 }
 
-/// The points of a listing that is turned back by none of 1 to 14.
+/// The points of a listing that is turned back by none of 1 to 14 and 19.
 pub(crate) fn passed(listing: &[u8]) -> Result<Listing, Refusal> {
     let listing = read(listing)?;
     for point in 0..listing.points.len() {
@@ -53,10 +53,10 @@ fn owed(listing: &Listing, index: usize) -> Result<(), Refusal> {
 }
 
 fn divisor_is_safe(instruction: &Instruction, known: &Known) -> bool {
-    match *instruction {
-        Instruction::Compute { kind: Arithmetic::Divide, o: Operand::Number(number), .. } => number > 0,
-        Instruction::Compute { kind: Arithmetic::Divide, o: Operand::Variable(v), .. } => known.ranges[v].lo >= 1,
-        _ => true,
+    match instruction.divisor() {
+        Some(Operand::Number(number)) => number > 0,
+        Some(Operand::Variable(v)) => known.ranges[v].lo >= 1,
+        None => true,
     }
 }
 

@@ -2,7 +2,7 @@
 
 use crate::known::{Known, Range};
 use crate::line::{Arithmetic, Comparison, Instruction, Operand, Stripe, Whole, BOUND_LIMIT, MAX};
-use crate::quotient::nearest;
+use crate::quotient::{nearest, rounded_down};
 
 /// Where an edge leads, and what is known along it. Along an impossible edge, nothing need be shown.
 #[derive(Clone, Debug)]
@@ -40,6 +40,7 @@ fn after_straight(instruction: &Instruction, before: &Known) -> Option<Known> {
         Instruction::Compute { kind: Arithmetic::Subtract, d, i, o } => Some(subtracted(before, d, i, o)),
         Instruction::Compute { kind: Arithmetic::Multiply, d, i, o } => Some(multiplied(before, d, i, o)),
         Instruction::Compute { kind: Arithmetic::Divide, d, i, o } => divided(before, d, i, o),
+        Instruction::DivMod { q, i, r, o } => divided_with_rest(before, q, i, r, o),
         _ => Some(before.clone()),
     }
 }
@@ -156,6 +157,17 @@ fn divided(before: &Known, d: usize, i: usize, o: Operand) -> Option<Known> {
     }
     let quotient = Range { lo: nearest(left.lo, right.hi), hi: nearest(left.hi, right.lo.max(1)) };
     Some(written(before, d, quotient, &[]))
+}
+
+/// Both ranges are made before either is written, since q or r may be i or o.
+fn divided_with_rest(before: &Known, q: usize, i: usize, r: usize, o: Operand) -> Option<Known> {
+    let (left, right) = (before.ranges[i], range_of(before, o));
+    if right.hi == 0 {
+        return None;
+    }
+    let quotient = Range { lo: rounded_down(left.lo, right.hi), hi: rounded_down(left.hi, right.lo.max(1)) };
+    let remainder = Range { lo: 0, hi: left.hi.min(right.hi - 1) };
+    Some(written(&written(before, q, quotient, &[]), r, remainder, &[]))
 }
 
 /// i < o held.

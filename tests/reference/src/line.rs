@@ -1,6 +1,6 @@
-//! One line of 40 bytes: its columns, its word, its fields and their limits. Refusals 2 to 5, in that order.
+//! One line of 40 bytes: its columns, its word, its fields and their limits. Refusals 2 to 5 in that order, then 19.
 
-use crate::refusals::{BAD_BYTE, BAD_SHAPE, OUT_OF_LIMITS, UNKNOWN_WORD};
+use crate::refusals::{BAD_BYTE, BAD_SHAPE, ONE_REGISTER_TWICE, OUT_OF_LIMITS, UNKNOWN_WORD};
 
 pub type Whole = i128;
 
@@ -42,16 +42,28 @@ pub enum Comparison {
     Equal,
 }
 
+/// `DivMod` writes the quotient of i by o, rounded down, to q and the remainder to r.
 #[derive(Clone, Copy, Debug, PartialEq, Eq)]
 pub enum Instruction {
     Stop,
     Set { d: usize, number: Whole },
     Copy { d: usize, i: usize },
     Compute { kind: Arithmetic, d: usize, i: usize, o: Operand },
+    DivMod { q: usize, i: usize, r: usize, o: Operand },
     Load { d: usize, width: Whole, table: Whole, scale: Whole, i: usize, offset: Whole },
     Store { stored: usize, width: Whole, scale: Whole, i: usize, offset: Whole },
     Jump { target: usize },
     Branch { kind: Comparison, i: usize, target: usize, o: Operand },
+}
+
+impl Instruction {
+    /// What it divides by, if it divides.
+    pub fn divisor(&self) -> Option<Operand> {
+        match *self {
+            Instruction::Compute { kind: Arithmetic::Divide, o, .. } | Instruction::DivMod { o, .. } => Some(o),
+            _ => None,
+        }
+    }
 }
 
 /// x − a × (y + z) ≥ b; without a z, z counts 0.
@@ -92,7 +104,11 @@ pub type Numbers = [Option<Whole>; 6];
 /// The line's meaning, or the number of its first refusal.
 pub fn read_line(line: &[u8]) -> Result<Line, u64> {
     let (word, numbers) = shaped(line)?;
-    meaning(word, &numbers).ok_or(OUT_OF_LIMITS)
+    let line = meaning(word, &numbers).ok_or(OUT_OF_LIMITS)?;
+    match line {
+        Line::Instruction(Instruction::DivMod { q, r, .. }) if q == r => Err(ONE_REGISTER_TWICE),
+        _ => Ok(line),
+    }
 }
 
 /// The word and the numbers of a line that has a meaning, or the number of its first refusal.
@@ -124,6 +140,7 @@ fn fields_due(word: &[u8]) -> Option<[Due; 6]> {
         b"SETC" => [Yes, No, No, No, No, Yes],
         b"COPY" => [Yes, Yes, No, No, No, No],
         b"ADDW" | b"SUBW" | b"MULW" | b"DIVF" => [Yes, Yes, No, No, Yes, Yes],
+        b"DIVM" => [Yes, Yes, Yes, No, Yes, Yes],
         b"LOAD" => [Yes, Yes, Yes, Yes, Yes, Yes],
         b"STOR" => [Yes, Yes, No, Yes, Yes, Yes],
         b"JUMP" => [No, No, No, Yes, No, No],
@@ -202,6 +219,7 @@ fn instruction(word: &[u8], f: &Numbers) -> Option<Instruction> {
         b"SUBW" => compute(Arithmetic::Subtract),
         b"MULW" => compute(Arithmetic::Multiply),
         b"DIVF" => compute(Arithmetic::Divide),
+        b"DIVM" => div_mod(f),
         b"LOAD" => load(f),
         b"STOR" => store(f),
         b"JUMP" => Some(Instruction::Jump { target: target(f[3])? }),
@@ -209,6 +227,10 @@ fn instruction(word: &[u8], f: &Numbers) -> Option<Instruction> {
         b"BEQU" => branch(Comparison::Equal),
         _ => unreachable!("the word is known"),
     }
+}
+
+fn div_mod(f: &Numbers) -> Option<Instruction> {
+    Some(Instruction::DivMod { q: register(f[0])?, i: variable(f[1])?, r: register(f[2])?, o: operand(f[4], f[5])? })
 }
 
 fn load(f: &Numbers) -> Option<Instruction> {

@@ -1,4 +1,4 @@
-//! A whole listing: lines to points. Refusals 1 to 11.
+//! A whole listing: lines to points. Refusals 1 to 11, and 19 among them.
 
 use crate::known::Known;
 use crate::line::{read_line, Claim, Instruction, Line};
@@ -48,7 +48,7 @@ pub struct Listing {
     pub points: Vec<Point>,
 }
 
-/// The points of a listing that is turned back by none of 1 to 11.
+/// The points of a listing that is turned back by none of 1 to 11 and 19.
 pub fn read(bytes: &[u8]) -> Result<Listing, Refusal> {
     if bytes.is_empty() || bytes.len() > LONGEST || !bytes.len().is_multiple_of(LINE_BYTES) {
         return Err(Refusal::new(BAD_LENGTH, 0));

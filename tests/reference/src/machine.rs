@@ -3,7 +3,7 @@
 use crate::known::Known;
 use crate::line::{Arithmetic, Comparison, Instruction, Operand, Stripe, Whole, MAX, REGISTERS, TRAYS_SIZE};
 use crate::listing::{Listing, Point};
-use crate::quotient::nearest;
+use crate::quotient::{left_over, nearest, rounded_down};
 
 #[derive(Clone, Copy, Debug, PartialEq, Eq)]
 pub struct State {
@@ -31,25 +31,21 @@ pub fn step(listing: &Listing, state: &State, trays: &[u8], results: &mut [u8]) 
     };
     match point.instruction {
         Instruction::Stop => Step::Stopped,
-        Instruction::Set { d, number } => Step::Moved(set(state, d, number)),
-        Instruction::Copy { d, i } => Step::Moved(set(state, d, value(i))),
-        Instruction::Compute { kind, d, i, o } => match compute(kind, value(i), operand(o)) {
-            Some(result) => Step::Moved(set(state, d, result)),
-            None => Step::Error,
-        },
+        Instruction::Set { d, number } => Step::Moved(set(state, &[(d, number)])),
+        Instruction::Copy { d, i } => Step::Moved(set(state, &[(d, value(i))])),
+        Instruction::Compute { kind, d, i, o } => {
+            moved(compute(kind, value(i), operand(o)).map(|result| set(state, &[(d, result)])))
+        }
+        Instruction::DivMod { q, i, r, o } => {
+            moved(div_mod(value(i), operand(o)).map(|(whole, rest)| set(state, &[(q, whole), (r, rest)])))
+        }
         Instruction::Load { d, width, table, scale, i, offset } => {
             let bytes: &[u8] = if table == 0 { trays } else { results };
-            match load(bytes, scale * value(i) + offset, width) {
-                Some(loaded) => Step::Moved(set(state, d, loaded)),
-                None => Step::Error,
-            }
+            moved(load(bytes, scale * value(i) + offset, width).map(|loaded| set(state, &[(d, loaded)])))
         }
         Instruction::Store { stored, width, scale, i, offset } => {
             let (stored, address) = (value(stored), scale * value(i) + offset);
-            match store(results, address, width, stored) {
-                Some(()) => Step::Moved(State { point: state.point + 1, ..*state }),
-                None => Step::Error,
-            }
+            moved(store(results, address, width, stored).map(|()| set(state, &[])))
         }
         Instruction::Jump { target } => Step::Moved(State { point: target as u64, ..*state }),
         Instruction::Branch { kind, i, target, o } => {
@@ -78,10 +74,17 @@ fn value(state: &State, v: usize, trays: usize, results: usize) -> Whole {
     }
 }
 
-/// d takes the value and the state moves to the next point.
-fn set(state: &State, d: usize, value: Whole) -> State {
+/// Without a state after it, the step leads to the error state.
+fn moved(after: Option<State>) -> Step {
+    after.map_or(Step::Error, Step::Moved)
+}
+
+/// Registers take values and the state moves to the next point.
+fn set(state: &State, values: &[(usize, Whole)]) -> State {
     let mut after = State { point: state.point + 1, ..*state };
-    after.registers[d] = value as u32;
+    for &(d, value) in values {
+        after.registers[d] = value as u32;
+    }
     after
 }
 
@@ -92,6 +95,11 @@ fn compute(kind: Arithmetic, left: Whole, right: Whole) -> Option<Whole> {
         Arithmetic::Multiply => Some((left * right).rem_euclid(MAX + 1)),
         Arithmetic::Divide => (right != 0).then(|| nearest(left, right)),
     }
+}
+
+/// The quotient rounded down and the remainder.
+fn div_mod(left: Whole, right: Whole) -> Option<(Whole, Whole)> {
+    (right != 0).then(|| (rounded_down(left, right), left_over(left, right)))
 }
 
 fn load(table: &[u8], address: Whole, width: Whole) -> Option<Whole> {

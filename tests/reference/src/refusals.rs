@@ -1,4 +1,4 @@
-//! The numbers of the refusals, in the order of the tests.
+//! The numbers of the refusals. They rise in the order of the tests but for 19, which is tested right after 5.
 
 /// No lines, too many bytes, or no whole number of lines.
 pub const BAD_LENGTH: u64 = 1;
@@ -36,3 +36,5 @@ pub const NO_SUCH_POINT: u64 = 16;
 pub const CLAIMS_NOT_MET: u64 = 17;
 /// A line that the lent listing does not hold whole, or that no listing has.
 pub const NO_SUCH_LINE: u64 = 18;
+/// One register for both the quotient and the remainder.
+pub const ONE_REGISTER_TWICE: u64 = 19;

@@ -1,9 +1,10 @@
-//! Sets one line of a listing from a word and six fields. Refusals 3 to 5 in that order, each over all fields, then 18.
+//! Sets one line of a listing from a word and six fields. Refusals 3 to 5 in that order, each over all fields, then 19,
+//! then 18.
 //! What a word wants in its fields stands here a second time, so that reading and setting can be tried on each other.
 
 use crate::line::{Whole, BOUND_LIMIT, MAX, SIZE_LIMIT};
 use crate::listing::{Refusal, LINE_BYTES, LONGEST};
-use crate::refusals::{BAD_SHAPE, NO_SUCH_LINE, OUT_OF_LIMITS, UNKNOWN_WORD};
+use crate::refusals::{BAD_SHAPE, NO_SUCH_LINE, ONE_REGISTER_TWICE, OUT_OF_LIMITS, UNKNOWN_WORD};
 use std::ops::Range;
 
 /// What a call puts in a field. The number of `Negative` is without its minus; `Misshapen` is neither blank nor number.
@@ -48,6 +49,9 @@ pub fn set_line(word: &[u8], fields: &[Field; 6], line: u64, listing: &mut [u8])
     if !(0..6).all(|at| text(fields[at]).len() <= columns(at).len() && within_limits(wanted[at], fields[at], fields)) {
         return Err(Refusal::new(OUT_OF_LIMITS, line));
     }
+    if word == b"DIVM" && fields[0] == fields[2] {
+        return Err(Refusal::new(ONE_REGISTER_TWICE, line));
+    }
     let Some(place) = place(line, listing) else { return Err(Refusal::new(NO_SUCH_LINE, 0)) };
     listing[place].copy_from_slice(&written(word, fields));
     Ok(())
@@ -63,6 +67,7 @@ fn wanted(word: &[u8]) -> Option<[Wanted; 6]> {
         b"SETC" => Some([Register, Blank, Blank, Blank, Blank, Value]),
         b"COPY" => Some([Register, Variable, Blank, Blank, Blank, Blank]),
         b"ADDW" | b"SUBW" | b"MULW" | b"DIVF" => Some([Register, Variable, Blank, Blank, Choice, Operand]),
+        b"DIVM" => Some([Register, Variable, Register, Blank, Choice, Operand]),
         b"LOAD" => Some([Register, Width, Table, Scale, Variable, Offset]),
         b"STOR" => Some([Variable, Width, Blank, Scale, Variable, Offset]),
         b"JUMP" => Some([Blank, Blank, Blank, Target, Blank, Blank]),

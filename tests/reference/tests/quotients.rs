@@ -2,7 +2,7 @@
 
 mod answers;
 
-use answers::{claim_fails, passes};
+use answers::{claim_fails, fails, passes};
 use lines::listing;
 use reference::{edges, read, run, step, Arithmetic, Instruction, Known, Operand, Outcome, Range, State, Step, Whole};
 
@@ -125,6 +125,7 @@ fn sizes_are_divided_too() {
 fn a_zero_divisor_is_the_error_state() {
     let text = read(&listing("DIVF 0 1 _ _ 0 2; STOP")).unwrap();
     assert_eq!(step(&text, &State { point: 0, registers: [0; 16] }, &[], &mut []), Step::Error);
+    fails("DIVF 0 1 _ _ 0 2; STOP", 12, 1);
 }
 
 /// The range of d = 0 along the edge, for ranges of i = 1 and o = 2.

@@ -2,16 +2,11 @@
 
 mod answers;
 
-use answers::{claim_fails, passes};
+use answers::{claim_fails, fails, passes};
 use lines::{listing, FIELDS};
-use reference::{check, run, Answer, Outcome, State};
+use reference::{check, run, Outcome, State};
 
 const BOUND_LIMIT: i64 = 4_398_046_511_104;
-
-#[track_caller]
-fn fails(notation: &str, number: u64, place: u64) {
-    assert_eq!(check(&listing(notation)), Answer { number, place, second: 0, points: 0 });
-}
 
 /// The refusal of a listing whose first line has this text in a field, blanks and all.
 fn number_with(notation: &str, field: usize, text: &str) -> u64 {

@@ -32,6 +32,7 @@ fn expect(word: &str, mut fields: [Field; 6], field: usize, changed: Field, numb
 const STOP: [Field; 6] = [Blank; 6];
 const SETC: [Field; 6] = [Number(1), Blank, Blank, Blank, Blank, Number(5)];
 const ADDW: [Field; 6] = [Number(1), Number(2), Blank, Blank, Number(0), Number(3)];
+const DIVM: [Field; 6] = [Number(1), Number(2), Number(3), Blank, Number(1), Number(4)];
 const LOAD: [Field; 6] = [Number(1), Number(2), Number(0), Number(4), Number(5), Number(6)];
 const STRP: [Field; 6] = [Number(1), Number(2), Number(3), Number(4), Blank, Negative(5)];
 
@@ -54,6 +55,8 @@ fn sets_a_line_of_every_word() {
         "SUBW 1 2 _ _ 1 4294967295",
         "MULW 1 2 _ _ 0 0",
         "DIVF 1 2 _ _ 1 0",
+        "DIVM 15 17 0 _ 0 17",
+        "DIVM 0 0 15 _ 1 4294967295",
         "LOAD 1 4 1 255 17 65535",
         "STOR 17 1 _ 1 0 0",
         "JUMP _ _ _ 511",
@@ -79,7 +82,7 @@ fn sets_a_line_of_every_word() {
 }
 
 #[test]
-fn a_word_is_four_bytes_of_one_of_fifteen() {
+fn a_word_is_four_bytes_of_one_of_sixteen() {
     for word in ["", "STO", "STOP ", "STOPSTOP", "stop", "STOp", " STO", "    ", "STOQ", "STO\n"] {
         assert_eq!(answer(word.as_bytes(), STOP, 2, 80), (3, 2), "{word:?}");
     }
@@ -144,6 +147,11 @@ fn a_number_past_its_limit_is_5() {
         ("SETC", SETC, 6, MAX),
         ("ADDW", ADDW, 2, 17),
         ("ADDW", ADDW, 6, 17),
+        ("DIVM", DIVM, 1, 15),
+        ("DIVM", DIVM, 2, 17),
+        ("DIVM", DIVM, 3, 15),
+        ("DIVM", DIVM, 5, 1),
+        ("DIVM", DIVM, 6, MAX),
         ("LOAD", LOAD, 2, 4),
         ("LOAD", LOAD, 3, 1),
         ("LOAD", LOAD, 4, 255),
@@ -192,6 +200,43 @@ fn a_number_too_wide_for_its_columns_is_5() {
     // with its minus a negative number takes one column more
     for number in [99_999_999_999_999, 100_000_000_000_000, u64::MAX.into()] {
         expect("STRP", STRP, 6, Negative(number), 5);
+    }
+}
+
+#[test]
+fn a_register_for_both_quotient_and_remainder_is_19() {
+    for register in 0..=15 {
+        let both = [Number(register), Number(2), Number(register), Blank, Number(1), Number(0)];
+        assert_eq!(answer(b"DIVM", both, 2, 80), (19, 2), "{register}");
+    }
+    // the dividend and a number operand may name it, and F3 of another word is no register
+    expect("DIVM", DIVM, 2, Number(1), 0);
+    expect("DIVM", DIVM, 6, Number(3), 0);
+    expect("STRP", STRP, 3, Number(1), 0);
+    expect("LOAD", LOAD, 1, Number(0), 0);
+}
+
+#[test]
+fn four_and_five_go_before_nineteen_and_eighteen_after() {
+    let both = [Number(3), Number(2), Number(3), Blank, Number(0), Number(4)];
+    expect("DIVM", both, 4, Number(0), 4);
+    expect("DIVM", both, 6, Blank, 4);
+    expect("DIVM", both, 2, Number(18), 5);
+    expect("DIVM", both, 5, Number(2), 5);
+    expect("DIVM", both, 6, Number(18), 5);
+    // no register has this number
+    for number in [16, 17, 9_999, 10_000, u64::MAX.into()] {
+        let none = [Number(number), Number(2), Number(number), Blank, Number(0), Number(4)];
+        assert_eq!(answer(b"DIVM", none, 2, 80), (5, 2), "{number}");
+    }
+    // two blanks, two minuses and two that are neither are no register
+    for field in [Blank, Negative(3), Misshapen] {
+        let none = [field, Number(2), field, Blank, Number(0), Number(4)];
+        assert_eq!(answer(b"DIVM", none, 2, 80), (4, 2), "{field:?}");
+    }
+    for line in [0, 3, 1_639, u64::MAX] {
+        assert_eq!(answer(b"DIVM", both, line, 80), (19, line));
+        assert_eq!(answer(b"DIVM", DIVM, line, 80), (18, 0));
     }
 }
 

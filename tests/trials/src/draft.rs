@@ -117,6 +117,10 @@ pub fn instruction_line(instruction: &Instruction) -> [u8; 40] {
             let (choice, value) = operand(o);
             line(word, [variable(d), variable(i), None, None, choice, value])
         }
+        Instruction::DivMod { q, i, r, o } => {
+            let (choice, value) = operand(o);
+            line("DIVM", [variable(q), variable(i), variable(r), None, choice, value])
+        }
         Instruction::Load { d, width, table, scale, i, offset } => {
             line("LOAD", [variable(d), Some(width), Some(table), Some(scale), variable(i), Some(offset)])
         }
@@ -147,7 +151,7 @@ mod tests {
     fn a_draft_of_a_listing_has_its_text() {
         let text = lines::listing(
             "LEAS 16 _ _ _ _ 4; MOST 1 _ _ _ _ 0; STRP 17 4 1 _ _ -3; LOAD 2 2 0 1 1 0; SETC 1 _ _ _ _ 7;
-             COPY 3 17; MULW 3 4 _ _ 0 2; BEQU _ 3 _ 1 1 9; STRP 0 1 2 3 _ 8; STOR 17 4 _ 255 0 65535; JUMP _ _ _ 0",
+             COPY 3 17; MULW 3 4 _ _ 0 2; DIVM 4 17 5 _ 1 6; BEQU _ 3 _ 1 1 9; STRP 0 1 2 3 _ 8; STOR 17 4 _ 255 0 65535; JUMP _ _ _ 0",
         );
         assert_eq!(draft_of(&reference::read(&text).unwrap()).text(), text);
     }

@@ -1,5 +1,6 @@
 //! How often each answer came up.
 
+use reference::refusals::ONE_REGISTER_TWICE;
 use reference::Answer;
 use std::marker::PhantomData;
 
@@ -54,19 +55,20 @@ impl<A: Answers> Counts<A> {
     }
 }
 
-/// A listing that passes, and the refusals 1 to 14.
+/// A listing that passes, and the refusals 1 to 14 and 19.
 #[derive(Clone, Debug)]
 pub struct CheckerAnswers;
 
 impl Answers for CheckerAnswers {
     const NAMES: &'static [&'static str] =
-        &["PASS", "1", "2", "3", "4", "5", "6", "7", "8", "9", "10", "11", "12", "13", "14"];
+        &["PASS", "1", "2", "3", "4", "5", "6", "7", "8", "9", "10", "11", "12", "13", "14", "19"];
 }
 
 pub type Tally = Counts<CheckerAnswers>;
 
 impl Tally {
     pub fn count(&mut self, answer: &Answer) {
-        self.count_at(answer.number as usize);
+        let refused = answer.number as usize;
+        self.count_at(if answer.number == ONE_REGISTER_TWICE { CheckerAnswers::NAMES.len() - 1 } else { refused });
     }
 }

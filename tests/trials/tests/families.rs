@@ -1,8 +1,9 @@
 //! The families hold what they promise: enough listings, every answer often enough, routines that pass, quotients at
-//! and beside a half.
+//! and beside a half, remainders in every way that their variables can meet.
 
 use reference::{meets, read, step, Arithmetic, Instruction, Operand, State, Step};
 use std::cmp::Ordering;
+use std::collections::BTreeMap;
 use trials::runs::{all_runs, Call};
 use trials::{all, of_reference, Family, Tally};
 
@@ -24,15 +25,17 @@ fn every_answer_comes_up_often_enough() {
         whole.add(&tally);
     }
     println!("{} all {} listings", whole.row(), whole.total());
-    assert!(whole.total() * SHARE >= 200_000, "{} listings", whole.total());
+    assert!(whole.total() * SHARE >= 400_000, "{} listings", whole.total());
     assert_eq!(whole.rare(), Vec::<&str>::new());
 }
 
+const ROUTINES: [&str; 2] = ["routines that pass, with loops and stripes", "routines that divide with remainder"];
+
 #[test]
 fn routines_pass() {
-    let routines = all().into_iter().next().unwrap().thinned(10 * SHARE);
-    for batch in 0..routines.batches {
-        for listing in routines.batch(batch) {
+    let families = all().into_iter().filter(|family| ROUTINES.contains(&family.name));
+    for routines in families.map(|family| family.thinned(10 * SHARE)) {
+        for listing in (0..routines.batches).flat_map(|batch| routines.batch(batch)) {
             assert_eq!(reference::check(&listing).number, 0);
         }
     }
@@ -47,7 +50,7 @@ fn listings_of(part: &str) -> impl Iterator<Item = Vec<u8>> {
 
 #[test]
 fn divisions_pass_and_are_turned_back_by_12_and_14() {
-    for part in ["quotients of one value", "quotients of ranges"] {
+    for part in ["quotients of one value", "quotients of ranges", "remainders of one value", "remainders of ranges"] {
         let numbers: Vec<u64> = listings_of(part).map(|listing| reference::check(&listing).number).collect();
         for number in [0, 12, 14] {
             let times = numbers.iter().filter(|&&other| other == number).count() as u64;
@@ -56,27 +59,53 @@ fn divisions_pass_and_are_turned_back_by_12_and_14() {
     }
 }
 
-/// For each division that is made, whether nothing is left over, and how twice the rest compares with the divisor.
-fn rests(call: &Call) -> Vec<(bool, Ordering)> {
-    let listing = read(&call.listing).expect("the listings of quotients can be read");
-    let (mut state, mut results, mut rests) = (call.state, call.results.clone(), Vec::new());
+/// A division that a run makes.
+struct Made {
+    instruction: Instruction,
+    dividend: u64,
+    divisor: u64,
+}
+
+/// The divisions of a run, of either kind.
+fn divisions(call: &Call) -> Vec<Made> {
+    let listing = read(&call.listing).expect("the listings of divisions can be read");
+    let (mut state, mut results, mut made) = (call.state, call.results.clone(), Vec::new());
     if !meets(&listing, &state, &call.trays, &results) {
-        return rests;
+        return made;
     }
     for _ in 0..call.budget {
         let instruction = listing.points[state.point as usize].instruction;
-        if let Instruction::Compute { kind: Arithmetic::Divide, i, o, .. } = instruction {
+        if let (Some(i), Some(o)) = (dividend(&instruction), instruction.divisor()) {
             let divisor = match o {
                 Operand::Number(number) => number as u64,
                 Operand::Variable(v) => value(call, &state, v),
             };
-            let rest = value(call, &state, i) % divisor;
-            rests.push((rest == 0, (2 * rest).cmp(&divisor)));
+            made.push(Made { instruction, dividend: value(call, &state, i), divisor });
         }
         let Step::Moved(next) = step(&listing, &state, &call.trays, &mut results) else { break };
         state = next;
     }
-    rests
+    made
+}
+
+fn dividend(instruction: &Instruction) -> Option<usize> {
+    match *instruction {
+        Instruction::Compute { kind: Arithmetic::Divide, i, .. } | Instruction::DivMod { i, .. } => Some(i),
+        _ => None,
+    }
+}
+
+/// The divisions of every first run of the families with this part in their names.
+fn divisions_of(part: &str) -> Vec<Made> {
+    let mut made = Vec::new();
+    for family in all_runs().into_iter().filter(|family| family.name.contains(part)) {
+        let family = family.thinned(SHARE);
+        for batch in 0..family.batches {
+            let trials = family.batch(&mut family.random(batch));
+            made.extend(trials.iter().flat_map(|trial| divisions(&trial.call)));
+        }
+    }
+    made
 }
 
 fn value(call: &Call, state: &State, v: usize) -> u64 {
@@ -86,16 +115,78 @@ fn value(call: &Call, state: &State, v: usize) -> u64 {
 
 #[test]
 fn runs_divide_at_and_beside_a_half() {
-    let mut rests_of_all = Vec::new();
-    for family in all_runs().into_iter().filter(|family| family.name.contains("quotients")) {
-        let family = family.thinned(SHARE);
-        for batch in 0..family.batches {
-            let trials = family.batch(&mut family.random(batch));
-            rests_of_all.extend(trials.iter().flat_map(|trial| rests(&trial.call)));
-        }
-    }
-    let count = |kind| rests_of_all.iter().filter(|&&rest| rest == kind).count() as u64;
+    let made = divisions_of("quotients");
+    let rest = |made: &Made| {
+        let rest = made.dividend % made.divisor;
+        (rest == 0, (2 * rest).cmp(&made.divisor))
+    };
+    let count = |kind| made.iter().filter(|made| rest(made) == kind).count() as u64;
     let kinds = [(true, Ordering::Less), (false, Ordering::Less), (false, Ordering::Equal), (false, Ordering::Greater)];
-    println!("{} divisions, {:?} with no rest, below a half, a half, above", rests_of_all.len(), kinds.map(count));
+    println!("{} divisions, {:?} with no rest, below a half, a half, above", made.len(), kinds.map(count));
     assert!(kinds.into_iter().all(|kind| count(kind) * SHARE >= 5_000), "{:?}", kinds.map(count));
+}
+
+/// Which of the others the dividend and the divisor of a division with remainder are.
+fn meeting(instruction: &Instruction) -> Option<[&'static str; 2]> {
+    let Instruction::DivMod { q, i, r, o } = *instruction else { return None };
+    let with_results = |v| match v {
+        v if v == q => Some("quotient"),
+        v if v == r => Some("remainder"),
+        _ => None,
+    };
+    let divisor = match o {
+        Operand::Number(_) => "number",
+        Operand::Variable(o) if o == i => "dividend",
+        Operand::Variable(o) => with_results(o).unwrap_or("apart"),
+    };
+    Some([with_results(i).unwrap_or("apart"), divisor])
+}
+
+/// Three for the dividend by five for the divisor, less two: one that is a result is no longer the other's.
+const MEETINGS: usize = 13;
+
+#[track_caller]
+fn meet_in_every_way(instructions: impl Iterator<Item = Instruction>) {
+    let mut counts = BTreeMap::new();
+    for meeting in instructions.filter_map(|instruction| meeting(&instruction)) {
+        *counts.entry(meeting).or_insert(0) += 1;
+    }
+    println!("{counts:?}");
+    assert_eq!(counts.len(), MEETINGS);
+    assert!(counts.values().all(|times| times * SHARE >= 200), "{counts:?}");
+}
+
+#[test]
+fn remainders_meet_in_every_way() {
+    for part in ["remainders of one value", "remainders of ranges"] {
+        let listings = listings_of(part).filter_map(|listing| read(&listing).ok());
+        meet_in_every_way(listings.flat_map(|listing| listing.points).map(|point| point.instruction));
+    }
+    for part in ["remainders of values", "remainders of ranges"] {
+        meet_in_every_way(divisions_of(part).into_iter().map(|made| made.instruction));
+    }
+}
+
+/// A kind of division and its name.
+type Kind = (&'static str, fn(&Made) -> bool);
+
+#[test]
+fn runs_leave_nothing_a_little_and_nearly_all() {
+    const MAX: u64 = u32::MAX as u64;
+    let made = divisions_of("remainders of values");
+    let kinds: [Kind; 8] = [
+        ("nothing left", |made| made.dividend % made.divisor == 0),
+        ("1 left", |made| made.dividend % made.divisor == 1),
+        ("nearly all left", |made| made.divisor > 2 && made.dividend % made.divisor == made.divisor - 1),
+        ("0 divided", |made| made.dividend == 0),
+        ("1 divided", |made| made.dividend == 1),
+        ("the greatest divided", |made| made.dividend == MAX),
+        ("by 1", |made| made.divisor == 1),
+        ("by the greatest", |made| made.divisor == MAX),
+    ];
+    for (name, kind) in kinds {
+        let times = made.iter().filter(|made| kind(made)).count() as u64;
+        println!("{times} of {} divisions: {name}", made.len());
+        assert!(times * SHARE >= 800, "{name}: {times}");
+    }
 }

@@ -1,36 +1,13 @@
 //! A checker that is wrong on purpose is found out, and the listing that shows it is small.
 
+mod wrong;
+
 use reference::{
     check, edges, goal_follows, read, Answer, Arithmetic, Claim, Edge, Instruction, Known, Operand, Range, Stripe,
-    Whole, LINKS, MAX,
+    Whole, MAX,
 };
-use trials::{all, compare, of_reference, Difference, Verdict};
-
-/// The first difference between the reference and a wrong checker, in the family whose name has this part.
-fn found(part: &str, wrong: &dyn Fn(&[u8]) -> Answer) -> Box<Difference> {
-    let wrong = |listing: &[u8]| {
-        let answer = wrong(listing);
-        Verdict { answer, line: reference::printed(&answer) }
-    };
-    let family = all().into_iter().find(|family| family.name.contains(part)).expect("the family exists");
-    let difference = compare(&family, &of_reference, &wrong).expect_err("the planted difference is found");
-    println!("{difference}");
-    difference
-}
-
-/// The reference's answer, with PASS where the point that fails would pass by a weaker rule.
-fn weakened(listing: &[u8], number: u64, excused: &dyn Fn(usize, &Instruction, &Known, u64) -> bool) -> Answer {
-    let answer = check(listing);
-    if answer.number != number {
-        return answer;
-    }
-    let points = read(listing).expect("12 to 14 come after reading").points;
-    let at = points.iter().position(|point| point.line == answer.place).expect("the place is an instruction");
-    if !excused(at, &points[at].instruction, &Known::at(&points[at]), answer.second) {
-        return answer;
-    }
-    Answer { number: 0, place: 0, second: 0, points: points.len() as u64 }
-}
+use trials::all;
+use wrong::{found, names, range_of, weakened, with_rule};
 
 fn claim_on_line(listing: &[u8], line: u64) -> Claim {
     let claims = read(listing).expect("it was read before").points.into_iter().flat_map(|point| point.claims);
@@ -68,45 +45,19 @@ fn divides_by_what_may_be_zero(listing: &[u8]) -> Answer {
 /// The range of a quotient, from those of the dividend and the divisor; none where no step is possible.
 type QuotientRange<'a> = &'a dyn Fn(Range, Range) -> Option<Range>;
 
-/// The reference's answer, with another range after divisions where it is PASS or 14.
+/// The reference's answer, with another range after divisions.
 fn with_quotients(listing: &[u8], range: QuotientRange) -> Answer {
-    let answer = check(listing);
-    if !matches!(answer.number, 0 | 14) {
-        return answer;
-    }
-    let points = read(listing).expect("12 to 14 come after reading").points;
-    for (at, point) in points.iter().enumerate() {
-        let before = Known::at(point);
-        for Edge { to, mut known } in edges(at, &point.instruction, &before) {
-            if let Instruction::Compute { kind: Arithmetic::Divide, d, i, o } = point.instruction {
-                known = divided(&before, d, i, o, range);
-            }
-            let Some(known) = known else { continue };
-            if let Some(claim) = points[to].claims.iter().find(|claim| !follows(&known, &claim.claim)) {
-                return Answer { number: 14, place: point.line, second: claim.line, points: 0 };
-            }
-        }
-    }
-    Answer { number: 0, place: 0, second: 0, points: points.len() as u64 }
+    with_rule(listing, &|instruction, before| {
+        let Instruction::Compute { kind: Arithmetic::Divide, d, i, o } = *instruction else { return None };
+        Some(divided(before, d, i, o, range))
+    })
 }
 
 fn divided(before: &Known, d: usize, i: usize, o: Operand, range: QuotientRange) -> Option<Known> {
-    let by = match o {
-        Operand::Variable(v) => before.ranges[v],
-        Operand::Number(number) => Range::only(number),
-    };
     let mut after = before.clone();
-    after.ranges[d] = range(before.ranges[i], by)?;
-    after.stripes.retain(|stripe| stripe.x != d && stripe.y != d && stripe.z != Some(d));
-    (!after.has_empty_range()).then_some(after)
-}
-
-fn follows(known: &Known, claim: &Claim) -> bool {
-    match *claim {
-        Claim::Least { v, value } => known.ranges[v].lo >= value,
-        Claim::Most { v, value } => known.ranges[v].hi <= value,
-        Claim::Stripe(goal) => goal_follows(known, &goal, LINKS),
-    }
+    after.ranges[d] = range(before.ranges[i], range_of(before, o))?;
+    after.stripes.retain(|stripe| !names(stripe, d));
+    Some(after)
 }
 
 fn nearest(i: Whole, o: Whole) -> Whole {

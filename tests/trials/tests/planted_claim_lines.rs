@@ -1,6 +1,10 @@
 //! A reader that is wrong on purpose about claim lines is found out, and the listing that shows it is small.
 
+mod mended;
+
 use lines::LINE;
+use mended::mended;
+use reference::refusals::ONE_REGISTER_TWICE;
 use trials::claim_lines::{compare_parts, listings, part_of_reference, Part, PartDifference};
 use trials::shrink::is_claim;
 
@@ -37,6 +41,18 @@ fn one_point_more(listing: &[u8], point: u64) -> Part {
         return Part { number: 0, place: 0, offset: 0, length: 0 };
     }
     part
+}
+
+/// A wrong reader to which one register for quotient and remainder is nothing.
+fn one_register_twice(listing: &[u8], point: u64) -> Part {
+    part_of_reference(&mended(listing), point)
+}
+
+#[test]
+fn one_register_twice_is_found() {
+    let difference = found("one register for quotient and remainder", &one_register_twice);
+    assert_eq!(difference.left.number, ONE_REGISTER_TWICE);
+    assert!(difference.listing.len() <= 2 * LINE, "{difference}");
 }
 
 #[test]

@@ -1,5 +1,9 @@
 //! A runner that is wrong on purpose is found out, and the call that shows it is small.
 
+mod mended;
+
+use mended::mended;
+use reference::refusals::ONE_REGISTER_TWICE;
 use reference::{read, step, Arithmetic, Instruction, Operand, Outcome, Refusal, State, Step, MAX};
 use trials::runs::{all_runs, compare_runs, After, Call, RunDifference};
 
@@ -14,6 +18,8 @@ fn found(part: &str, wrong: &dyn Fn(&Call) -> After) -> Box<RunDifference> {
 fn lines_of(difference: &RunDifference) -> usize {
     difference.call.listing.len() / 40
 }
+
+type Registers = [u32; 16];
 
 /// Changes what a step led to: the instruction, the state before and after, and the results.
 type Change<'a> = &'a dyn Fn(&Instruction, &State, &mut State, &mut [u8]);
@@ -59,6 +65,24 @@ fn dividing(call: &Call, quotient: fn(u64, u64) -> u64) -> After {
             Operand::Variable(_) => return,
         };
         next.registers[d] = quotient(u64::from(before.registers[i]), divisor) as u32;
+    })
+}
+
+/// Writes quotient and remainder: of q, i and r, by the divisor that the registers have.
+type Deal = fn([usize; 3], &dyn Fn(&Registers) -> u32, &mut Registers);
+
+/// Divisions with remainder of registers by registers or numbers, made in another way.
+fn dealing(call: &Call, deal: Deal) -> After {
+    stepped(call, &|instruction, before, next, _| {
+        let Instruction::DivMod { q, i: i @ 0..=15, r, o } = *instruction else { return };
+        let divisor = |registers: &Registers| match o {
+            Operand::Variable(v) => registers[v],
+            Operand::Number(number) => number as u32,
+        };
+        if !matches!(o, Operand::Variable(16..)) {
+            next.registers = before.registers;
+            deal([q, i, r], &divisor, &mut next.registers);
+        }
     })
 }
 
@@ -198,4 +222,105 @@ fn a_divisor_that_is_not_doubled_is_found() {
 fn a_quotient_from_a_sum_of_32_bits_is_found() {
     quotient_found(|i, o| ((2 * i + o) as u32 as u64) / (2 * o));
     quotient_found(|i, o| ((i + o / 2) as u32 as u64) / o);
+}
+
+/// A wrong division with remainder is found where values are divided and where they lie in ranges, by one division.
+#[track_caller]
+fn remainder_found(deal: Deal) {
+    for part in ["remainders of values", "remainders of ranges"] {
+        let difference = found(part, &|call| dealing(call, deal));
+        assert!(lines_of(&difference) <= 3 && difference.call.budget == 1, "{difference}");
+    }
+}
+
+/// What is planted below differs from the reference in the two results alone.
+#[test]
+fn the_right_remainder_makes_no_difference() {
+    let right = |call: &Call| {
+        dealing(call, |[q, i, r], divisor, registers| {
+            let (dividend, divisor) = (registers[i], divisor(registers));
+            (registers[q], registers[r]) = (dividend / divisor, dividend % divisor);
+        })
+    };
+    for family in all_runs().into_iter().map(|family| family.thinned(20)) {
+        if let Err(difference) = compare_runs(&family, &[("right", &right)]) {
+            panic!("{difference}");
+        }
+    }
+}
+
+/// The quotient overwrites the dividend, or the divisor; by a new divisor of 0, nothing is left.
+#[test]
+fn a_remainder_after_the_quotient_is_written_is_found() {
+    remainder_found(|[q, i, r], divisor, registers| {
+        let by = divisor(registers);
+        registers[q] = registers[i] / by;
+        registers[r] = registers[i] % by;
+    });
+    remainder_found(|[q, i, r], divisor, registers| {
+        let of = registers[i];
+        registers[q] = of / divisor(registers);
+        registers[r] = of.checked_rem(divisor(registers)).unwrap_or(0);
+    });
+}
+
+#[test]
+fn a_quotient_after_the_remainder_is_written_is_found() {
+    remainder_found(|[q, i, r], divisor, registers| {
+        let by = divisor(registers);
+        registers[r] = registers[i] % by;
+        registers[q] = registers[i] / by;
+    });
+    remainder_found(|[q, i, r], divisor, registers| {
+        let of = registers[i];
+        registers[r] = of % divisor(registers);
+        registers[q] = of.checked_div(divisor(registers)).unwrap_or(0);
+    });
+}
+
+#[test]
+fn results_exchanged_are_found() {
+    remainder_found(|[q, i, r], divisor, registers| {
+        let (dividend, divisor) = (registers[i], divisor(registers));
+        (registers[r], registers[q]) = (dividend / divisor, dividend % divisor);
+    });
+}
+
+#[test]
+fn a_quotient_to_the_nearest_with_its_remainder_is_found() {
+    remainder_found(|[q, i, r], divisor, registers| {
+        let (dividend, divisor) = (u64::from(registers[i]), u64::from(divisor(registers)));
+        (registers[q], registers[r]) = (((2 * dividend + divisor) / (2 * divisor)) as u32, (dividend % divisor) as u32);
+    });
+}
+
+#[test]
+fn a_remainder_that_is_not_written_is_found() {
+    remainder_found(|[q, i, _], divisor, registers| registers[q] = registers[i] / divisor(registers));
+}
+
+/// A run where one register is named for both results.
+#[test]
+fn a_run_with_one_register_twice_is_found() {
+    let runs_anyway = |call: &Call| {
+        let mut after = call.with_listing(&mended(&call.listing)).by_reference();
+        after.listing.clone_from(&call.listing);
+        after
+    };
+    let difference = found("one register for quotient and remainder", &runs_anyway);
+    assert!(lines_of(&difference) <= 2, "{difference}");
+}
+
+/// 19 with no line.
+#[test]
+fn a_refusal_without_its_line_is_found() {
+    let no_place = |call: &Call| {
+        let mut after = call.by_reference();
+        if let Outcome::Refused(Refusal { number: number @ ONE_REGISTER_TWICE, .. }) = after.run.outcome {
+            after.run.outcome = Outcome::Refused(Refusal { number, place: 0, second: 0 });
+        }
+        after
+    };
+    let difference = found("one register for quotient and remainder", &no_place);
+    assert_eq!((lines_of(&difference), difference.call.budget), (1, 0));
 }

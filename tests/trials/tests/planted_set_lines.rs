@@ -1,7 +1,7 @@
 //! A setter that is wrong on purpose is found out, by the comparison or by a law.
 
 use lines::{FIELDS, LINE};
-use reference::refusals::{BAD_SHAPE, NO_SUCH_LINE, OUT_OF_LIMITS, UNKNOWN_WORD};
+use reference::refusals::{BAD_SHAPE, NO_SUCH_LINE, ONE_REGISTER_TWICE, OUT_OF_LIMITS, UNKNOWN_WORD};
 use trials::set_lines::{
     compare_setters, lines_come_back, set_by_reference, set_families, set_lines_are_read, SetAfter, SetCall,
     SetDifference, BLANK, NEGATIVE, NUMBER,
@@ -150,6 +150,50 @@ fn any_kind_a_number(call: &SetCall) -> SetAfter {
     with(call, &|call| call.kinds.iter_mut().for_each(|kind| *kind = if *kind > NEGATIVE { NUMBER } else { *kind }))
 }
 
+/// A line set where quotient and remainder are in one register.
+fn one_register_twice(call: &SetCall) -> SetAfter {
+    let refused = set_by_reference(call).number == ONE_REGISTER_TWICE;
+    with(call, &|call| call.numbers[2] = if refused { (call.numbers[0] + 1) % 16 } else { call.numbers[2] })
+}
+
+/// 18 where 19 holds too.
+fn line_before_registers(call: &SetCall) -> SetAfter {
+    let right = set_by_reference(call);
+    if right.number == ONE_REGISTER_TWICE {
+        line_first(call)
+    } else {
+        right
+    }
+}
+
+/// 19 for the same in both fields of a DIVM, whatever else is wrong by the test of this number.
+fn registers_before(number: u64, call: &SetCall) -> SetAfter {
+    let mut after = set_by_reference(call);
+    let same = (call.kinds[0], call.numbers[0]) == (call.kinds[2], call.numbers[2]);
+    if after.number == number && call.word == b"DIVM" && same {
+        after.number = ONE_REGISTER_TWICE;
+    }
+    after
+}
+
+/// 19 for F1 and F3 of any word.
+fn any_word_with_registers(call: &SetCall) -> SetAfter {
+    let mut after = set_by_reference(call);
+    let same = call.kinds[0] == NUMBER && call.kinds[2] == NUMBER && call.numbers[0] == call.numbers[2];
+    if after.number == 0 && same {
+        after = SetAfter { number: ONE_REGISTER_TWICE, place: call.line, listing: call.listing.clone() };
+    }
+    after
+}
+
+fn place_0_in_19(call: &SetCall) -> SetAfter {
+    let mut after = set_by_reference(call);
+    if after.number == ONE_REGISTER_TWICE {
+        after.place = 0;
+    }
+    after
+}
+
 #[test]
 fn a_line_looked_for_too_soon_is_found() {
     let (left, right) = numbers_of(&found(&line_first));
@@ -235,4 +279,34 @@ fn a_line_past_the_longest_listing_is_found() {
     let difference = found(&one_line_more);
     assert_eq!(numbers_of(&difference), (NO_SUCH_LINE, 0));
     assert!(difference.call.listing.len() >= 1639 * LINE);
+}
+
+#[test]
+fn one_register_twice_is_found() {
+    let difference = found(&one_register_twice);
+    assert_eq!(difference.left.number, ONE_REGISTER_TWICE);
+    assert_eq!(difference.call.word, b"DIVM");
+}
+
+#[test]
+fn a_line_looked_for_before_the_registers_is_found() {
+    assert_eq!(numbers_of(&found(&line_before_registers)), (ONE_REGISTER_TWICE, NO_SUCH_LINE));
+}
+
+#[test]
+fn registers_compared_too_soon_are_found() {
+    for number in [BAD_SHAPE, OUT_OF_LIMITS] {
+        assert_eq!(numbers_of(&found(&|call| registers_before(number, call))), (number, ONE_REGISTER_TWICE));
+    }
+}
+
+#[test]
+fn registers_compared_for_other_words_are_found() {
+    assert_eq!(numbers_of(&found(&any_word_with_registers)), (0, ONE_REGISTER_TWICE));
+}
+
+#[test]
+fn registers_without_the_line_given_are_found() {
+    let difference = found(&place_0_in_19);
+    assert_eq!((difference.left.place, difference.right.place), (difference.call.line, 0));
 }

@@ -44,7 +44,7 @@ fn every_word_is_set() {
             *set.entry(call.word).or_insert(0) += u64::from(after.number == 0);
         }
     }
-    assert_eq!(set.len(), 15);
+    assert_eq!(set.len(), 16);
     assert!(set.values().all(|&times| times >= 500), "{set:?}");
 }
 

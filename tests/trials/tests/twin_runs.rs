@@ -38,6 +38,6 @@ fn the_twin_runs_alike() {
         }
     }
     println!("{} all {} runs, {} steps", whole.row(), whole.total(), whole.steps);
-    assert!(whole.total() * SHARE >= 300_000, "{} runs", whole.total());
+    assert!(whole.total() * SHARE >= 400_000, "{} runs", whole.total());
     assert_eq!(whole.rare(), Vec::<String>::new());
 }

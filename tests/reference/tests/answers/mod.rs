@@ -12,3 +12,8 @@ pub fn passes(notation: &str, points: u64) {
 pub fn claim_fails(notation: &str, place: u64, second: u64) {
     assert_eq!(check(&listing(notation)), Answer { number: 14, place, second, points: 0 });
 }
+
+#[track_caller]
+pub fn fails(notation: &str, number: u64, place: u64) {
+    assert_eq!(check(&listing(notation)), Answer { number, place, second: 0, points: 0 });
+}

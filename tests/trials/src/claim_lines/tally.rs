@@ -4,15 +4,16 @@ use super::comparison::Part;
 use crate::shrink::is_claim;
 use crate::tally::{Answers, Counts};
 use lines::LINE;
+use reference::refusals::ONE_REGISTER_TWICE;
 
 /// Claim lines that no other point has byte for byte, claim lines that another one has too, no claim lines, the
-/// refusals 1 to 11, then 16 for a point that does not exist and for the greatest number.
+/// refusals 1 to 11 and 19, then 16 for a point that does not exist and for the greatest number.
 #[derive(Clone, Debug)]
 pub struct PartAnswers;
 
 impl Answers for PartAnswers {
     const NAMES: &'static [&'static str] =
-        &["lines", "equal", "none", "1", "2", "3", "4", "5", "6", "7", "8", "9", "10", "11", "16", "16 max"];
+        &["lines", "equal", "none", "1", "2", "3", "4", "5", "6", "7", "8", "9", "10", "11", "19", "16", "16 max"];
 }
 
 const FIRST_REFUSAL: usize = 3;
@@ -30,6 +31,7 @@ fn column(listing: &[u8], point: u64, part: &Part) -> usize {
         (0, 0) => 2,
         (0, length) => usize::from(has_twin(listing, part.offset as usize, length as usize)),
         (number @ 1..=11, _) => number as usize - 1 + FIRST_REFUSAL,
+        (ONE_REGISTER_TWICE, _) => 11 + FIRST_REFUSAL,
         (16, _) => PartAnswers::NAMES.len() - 1 - usize::from(point != u64::MAX),
         (other, _) => panic!("no call for claim lines is turned back by {other}"),
     }

@@ -3,7 +3,7 @@
 // every damage has the same signature
 #![allow(clippy::ptr_arg)]
 
-use super::{pieces, probes, routines};
+use super::{pieces, probes, remainders, routines};
 use crate::draft::{claim_line, instruction_line};
 use crate::random::Random;
 use crate::shrink::{is_claim, write};
@@ -42,6 +42,36 @@ pub fn damaged_twice(random: &mut Random) -> Vec<Vec<u8>> {
         spoilt.push(text);
     }
     spoilt
+}
+
+/// One register for both results of a DIVM: alone, beside another damage to its line, or beside one anywhere.
+pub fn one_register_twice(random: &mut Random) -> Vec<Vec<u8>> {
+    let make = random.pick(&[remainders::of_ranges, remainders::among_points]);
+    let mut text = make(random).remove(0);
+    let at = some_line(random, &text);
+    let kept = if random.percent(50) { at } else { at + LINE };
+    text.splice(at..kept, twice(random));
+    let line = &mut text[at..at + LINE];
+    match random.below(8) {
+        0 | 1 => {}
+        2 => spoil_shape(random, line),
+        3 => {
+            let field = random.pick(&[1, 4, 5]);
+            spoil_limit(random, line, field);
+        }
+        4 => {
+            let none = random.pick(&["", "16", "17", "9999", "-1", "01"]);
+            [0, 2].iter().for_each(|&field| write(line, field, none));
+        }
+        _ => random.pick(&DAMAGES)(random, &mut text),
+    }
+    vec![text]
+}
+
+fn twice(random: &mut Random) -> [u8; LINE] {
+    let pool = pieces::pool(random);
+    let (q, i, o) = (pool[0], random.pick(&pool), pieces::operand(random, &pool));
+    instruction_line(&Instruction::DivMod { q, i, r: q, o })
 }
 
 fn base(random: &mut Random) -> Vec<u8> {
@@ -87,9 +117,12 @@ fn word(random: &mut Random, text: &mut Vec<u8>) {
 
 fn shape(random: &mut Random, text: &mut Vec<u8>) {
     let at = some_line(random, text);
+    spoil_shape(random, &mut text[at..at + LINE]);
+}
+
+fn spoil_shape(random: &mut Random, line: &mut [u8]) {
     let field = random.below(FIELDS.len());
     let (start, end) = FIELDS[field];
-    let line = &mut text[at..at + LINE];
     match random.below(8) {
         0 => line[start..end].fill(b' '),
         1 => line[start..end].rotate_left(1),
@@ -110,12 +143,15 @@ fn limits(random: &mut Random, text: &mut Vec<u8>) {
         if line[FIELDS[field].1 - 1] == b' ' {
             continue;
         }
-        let small = ["0", "2", "3", "8", "16", "17", "18", "256", "512", "999", "9999"];
-        let large = ["18", "65536", "65537", "4294967296", "4398046511105", "999999999999999"];
-        let number = if field == 5 { random.pick(&large) } else { random.pick(&small) };
-        write(line, field, number);
-        return;
+        return spoil_limit(random, line, field);
     }
+}
+
+fn spoil_limit(random: &mut Random, line: &mut [u8], field: usize) {
+    let small = ["0", "2", "3", "8", "16", "17", "18", "256", "512", "999", "9999"];
+    let large = ["18", "65536", "65537", "4294967296", "4398046511105", "999999999999999"];
+    let number = if field == 5 { random.pick(&large) } else { random.pick(&small) };
+    write(line, field, number);
 }
 
 fn order(random: &mut Random, text: &mut Vec<u8>) {

@@ -7,7 +7,7 @@ use crate::shrink::write;
 use lines::{listing, FIELDS, LINE};
 use reference::{Claim, Instruction, Stripe};
 
-/// A line of each word that is right in every field.
+/// A line of each word but DIVM that is right in every field.
 const MODELS: [&str; 15] = [
     "STOP",
     "SETC 1 _ _ _ _ 5",
@@ -58,7 +58,18 @@ const WIDE: [&str; 22] = [
 
 /// A model line with one or two fields at or beside a limit, between points that are right.
 pub fn fields(random: &mut Random) -> Vec<Vec<u8>> {
-    let mut line = listing(random.pick(&MODELS));
+    let model = random.pick(&MODELS);
+    fields_of(random, model)
+}
+
+/// The same of a division with remainder.
+pub fn fields_of_div_mod(random: &mut Random) -> Vec<Vec<u8>> {
+    let model = random.pick(&["DIVM 1 2 3 _ 0 4", "DIVM 1 2 3 _ 1 4"]);
+    fields_of(random, model)
+}
+
+fn fields_of(random: &mut Random, model: &str) -> Vec<Vec<u8>> {
+    let mut line = listing(model);
     if matches!(&line[..4], b"LEAS" | b"MOST") && random.percent(50) {
         write(&mut line, 0, random.pick(&["15", "16", "17"]));
     }

@@ -7,9 +7,10 @@ pub(crate) mod nudges;
 pub(crate) mod pieces;
 pub(crate) mod probes;
 pub(crate) mod quotients;
+pub(crate) mod remainders;
 mod routines;
 
-pub use routines::{guarded_loop, routine, Loop};
+pub use routines::{dealing, guarded_loop, routine, Loop};
 
 use crate::random::Random;
 
@@ -37,7 +38,7 @@ impl Family {
     }
 }
 
-/// Every family of the comparison; together more than 200,000 listings.
+/// Every family of the comparison; together more than 400,000 listings.
 pub fn all() -> Vec<Family> {
     vec![
         Family::new("routines that pass, with loops and stripes", 1, 14_000, routines::passing),
@@ -57,5 +58,13 @@ pub fn all() -> Vec<Family> {
         Family::new("eight and nine stripes, order of claims", 12, 2_000, limits::claim_order),
         Family::new("512 and 513 points", 13, 900, limits::many_points),
         Family::new("65,520 and 65,560 bytes", 14, 60, limits::many_bytes),
+        Family::new("remainders of one value by one value", 31, 14_000, remainders::of_values),
+        Family::new("remainders of ranges, claims at and beside their ends", 32, 24_000, remainders::of_ranges),
+        Family::new("remainders with stripes, claims at and beside what follows", 33, 16_000, remainders::of_stripes),
+        Family::new("a few random points, some with remainders", 34, 8_000, remainders::among_points),
+        Family::new("routines that divide with remainder", 35, 3_000, routines::dealing_passing),
+        Family::new("routines that divide with remainder, one field nudged", 36, 500, nudges::dealing_nudged),
+        Family::new("one register for quotient and remainder", 37, 6_000, damage::one_register_twice),
+        Family::new("fields of DIVM at and beside their limits", 38, 3_000, limits::fields_of_div_mod),
     ]
 }

@@ -1,6 +1,6 @@
 //! Near misses: a routine that passes, with one thing about it changed.
 
-use super::routines::routine;
+use super::routines::{dealing, routine};
 use crate::random::Random;
 use crate::shrink::{number, write};
 use lines::{FIELDS, LINE};
@@ -10,6 +10,12 @@ const CHANGES: usize = 8;
 /// Several changes of one routine, each of one number in one field.
 pub fn nudged(random: &mut Random) -> Vec<Vec<u8>> {
     let text = routine(random).text();
+    (0..CHANGES).map(|_| nudge(random, &text)).collect()
+}
+
+/// The same of a routine that divides with remainder.
+pub fn dealing_nudged(random: &mut Random) -> Vec<Vec<u8>> {
+    let text = dealing(random).text();
     (0..CHANGES).map(|_| nudge(random, &text)).collect()
 }
 

@@ -63,6 +63,13 @@ pub fn pool(random: &mut Random) -> Vec<usize> {
     pool
 }
 
+/// The same with at least two registers.
+pub fn pool_of_two(random: &mut Random) -> Vec<usize> {
+    let mut pool = pool(random);
+    pool.push((pool[0] + 1 + random.below(REGISTERS - 1)) % REGISTERS);
+    pool
+}
+
 pub fn register(random: &mut Random, pool: &[usize]) -> usize {
     let v = random.pick(pool);
     if v < REGISTERS {
@@ -132,6 +139,14 @@ pub fn arithmetic(random: &mut Random, pool: &[usize]) -> Instruction {
         operand => operand,
     };
     Instruction::Compute { kind, d: register(random, pool), i: random.pick(pool), o }
+}
+
+/// A division with remainder over a pool with two registers or more; seldom both results are in one.
+pub fn div_mod(random: &mut Random, pool: &[usize]) -> Instruction {
+    let q = register(random, pool);
+    let others: Vec<usize> = pool.iter().copied().filter(|&v| v < REGISTERS && v != q).collect();
+    let r = if random.percent(2) { q } else { random.pick(&others) };
+    Instruction::DivMod { q, i: random.pick(pool), r, o: operand(random, pool) }
 }
 
 pub fn load(random: &mut Random, pool: &[usize]) -> Instruction {

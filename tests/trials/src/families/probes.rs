@@ -12,6 +12,14 @@ use reference::{
 /// Random claims, a random instruction, and after it claims at, below and above what follows.
 pub fn one_edge(random: &mut Random) -> Vec<Vec<u8>> {
     let pool = pieces::pool(random);
+    edge_over(random, &pool, pieces::instruction)
+}
+
+/// An instruction over a pool of variables, with the point that it may go to.
+pub type Maker = fn(&mut Random, &[usize], usize) -> Instruction;
+
+/// The same with variables and instructions of one's own.
+pub fn edge_over(random: &mut Random, pool: &[usize], make: Maker) -> Vec<Vec<u8>> {
     let mut draft = Draft::default();
     // behind a jump to itself, a point may have empty ranges
     if random.percent(50) {
@@ -19,18 +27,18 @@ pub fn one_edge(random: &mut Random) -> Vec<Vec<u8>> {
     }
     let at = draft.points.len();
     let target = at + 1 + random.below(2);
-    let point = draft.push(pieces::instruction(random, &pool, target));
-    pieces::claim_ranges(random, &pool, point);
+    let point = draft.push(make(random, pool, target));
+    pieces::claim_ranges(random, pool, point);
     let stripes = random.pick(&[0, 1, 2, 3, 5, 8]);
-    pieces::claim_stripes(random, &pool, stripes, point);
+    pieces::claim_stripes(random, pool, stripes, point);
     allow_access(random, point);
     let before = point.known();
     let edges = edges(at, &point.instruction, &before);
     draft.push(Instruction::Stop);
     draft.push(Instruction::Stop);
     for edge in &edges {
-        claim_beside(random, edge, &pool, &mut draft);
-        claim_again(random, &before, &pool, &mut draft.points[edge.to]);
+        claim_beside(random, edge, pool, &mut draft);
+        claim_again(random, &before, pool, &mut draft.points[edge.to]);
         let tempting = tempting(&draft.points[at].instruction);
         if !tempting.is_empty() && random.percent(25) {
             draft.points[edge.to].claim(Claim::Stripe(random.pick(&tempting)));
@@ -107,18 +115,15 @@ fn allow_access(random: &mut Random, point: &mut DraftPoint) {
     if random.percent(10) {
         return;
     }
-    match point.instruction {
-        Instruction::Compute { kind: Arithmetic::Divide, o: Operand::Variable(v), .. } => {
-            point.claims.retain(|claim| !matches!(*claim, Claim::Least { v: other, .. } if other == v));
-            let value = random.between(1, 3);
-            point.claim(Claim::Least { v, value });
-        }
-        Instruction::Load { i, table, width, offset, scale, .. } => {
-            let size = TRAYS_SIZE + table as usize;
-            point.claims.insert(0, Claim::Stripe(Stripe { x: size, a: scale, y: i, z: None, b: width + offset }));
-            keep_eight_stripes_in_order(point);
-        }
-        _ => {}
+    if let Some(Operand::Variable(v)) = point.instruction.divisor() {
+        point.claims.retain(|claim| !matches!(*claim, Claim::Least { v: other, .. } if other == v));
+        let value = random.between(1, 3);
+        point.claim(Claim::Least { v, value });
+    }
+    if let Instruction::Load { i, table, width, offset, scale, .. } = point.instruction {
+        let size = TRAYS_SIZE + table as usize;
+        point.claims.insert(0, Claim::Stripe(Stripe { x: size, a: scale, y: i, z: None, b: width + offset }));
+        keep_eight_stripes_in_order(point);
     }
 }
 
@@ -200,7 +205,7 @@ fn best(known: &Known, goal: &Stripe, links: u32) -> Whole {
     best_bound
 }
 
-fn within_limits(claim: &Claim) -> bool {
+pub(super) fn within_limits(claim: &Claim) -> bool {
     match *claim {
         Claim::Least { v, value } | Claim::Most { v, value } => (0..=pieces::greatest(v)).contains(&value),
         Claim::Stripe(stripe) => stripe.b.abs() <= BOUND_LIMIT,
@@ -296,6 +301,11 @@ pub fn access(random: &mut Random) -> Vec<Vec<u8>> {
 /// One to five points with random claims, most of them weak, over few variables.
 pub fn jumble(random: &mut Random) -> Vec<Vec<u8>> {
     let pool = pieces::pool(random);
+    jumble_over(random, &pool, pieces::instruction)
+}
+
+/// The same with variables and instructions of one's own.
+pub fn jumble_over(random: &mut Random, pool: &[usize], make: Maker) -> Vec<Vec<u8>> {
     let count = 1 + random.below(5);
     let mut draft = Draft::default();
     for at in 0..count {
@@ -305,11 +315,11 @@ pub fn jumble(random: &mut Random) -> Vec<Vec<u8>> {
             0 | 1 if last => Instruction::Jump { target },
             _ if last => Instruction::Stop,
             0 if at > 0 => Instruction::Stop,
-            _ => pieces::instruction(random, &pool, target),
+            _ => make(random, pool, target),
         };
         let point = draft.push(instruction);
         for _ in 0..random.pick(&[0, 0, 1, 1, 2, 4, 9]) {
-            let claim = pieces::claim(random, &pool);
+            let claim = pieces::claim(random, pool);
             point.claim(if random.percent(70) { weak(claim) } else { claim });
         }
     }

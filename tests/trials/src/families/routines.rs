@@ -10,9 +10,17 @@ use reference::{
     TRAYS_SIZE,
 };
 
+/// The index and the count of a routine's loops come first among its registers.
+const CONTROL: usize = 2;
+
 /// One routine that passes.
 pub fn passing(random: &mut Random) -> Vec<Vec<u8>> {
     vec![routine(random).text()]
+}
+
+/// One that divides with remainder.
+pub fn dealing_passing(random: &mut Random) -> Vec<Vec<u8>> {
+    vec![dealing(random).text()]
 }
 
 /// A loop over one table: an index below a count of records, a table and a scale.
@@ -58,7 +66,33 @@ impl Loop {
 /// A whole routine: a few straight steps, one or two loops, and STOP.
 pub fn routine(random: &mut Random) -> Draft {
     let registers = distinct_registers(random);
-    let (control, scratch) = registers.split_at(2);
+    let draft = unclaimed(random, &registers);
+    claimed(random, draft)
+}
+
+/// A routine that divides with remainder.
+pub fn dealing(random: &mut Random) -> Draft {
+    let registers = distinct_registers(random);
+    let mut draft = unclaimed(random, &registers);
+    draft.points.iter_mut().for_each(|point| deal(random, &registers[CONTROL..], &mut point.instruction));
+    claimed(random, draft)
+}
+
+/// Divisions keep what is left over; some other calculations become such divisions, by a number.
+fn deal(random: &mut Random, scratch: &[usize], instruction: &mut Instruction) {
+    let Instruction::Compute { kind, d: q, i, o } = *instruction else { return };
+    let o = match kind {
+        Arithmetic::Divide => o,
+        _ if scratch.contains(&q) && random.percent(40) => Operand::Number(random.between(1, 300)),
+        _ => return,
+    };
+    let others: Vec<usize> = scratch.iter().copied().filter(|&other| other != q).collect();
+    *instruction = Instruction::DivMod { q, i, r: random.pick(&others), o };
+}
+
+/// The steps with the claims that the loops need.
+fn unclaimed(random: &mut Random, registers: &[usize]) -> Draft {
+    let (control, scratch) = registers.split_at(CONTROL);
     let mut draft = Draft::default();
     let over = Loop {
         index: control[0],
@@ -74,6 +108,11 @@ pub fn routine(random: &mut Random) -> Draft {
         straight(random, &mut draft, scratch, &[over.whole()]);
     }
     draft.push(Instruction::Stop);
+    draft
+}
+
+/// More claims, of which those are kept that pass.
+fn claimed(random: &mut Random, mut draft: Draft) -> Draft {
     let share = random.pick(&[10, 25, 40]);
     spread_claims(random, &mut draft, share);
     settle(&mut draft);

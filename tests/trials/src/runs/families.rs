@@ -2,11 +2,11 @@
 //! made again from the family and the batch.
 
 use super::call::Call;
-use super::quotients;
 use super::resume::budget;
 use super::starts::{any, bytes, meeting, meeting_at, missing, Start};
+use super::{quotients, remainders};
 use crate::draft::{Draft, DraftPoint};
-use crate::families::{damage, limits, nudges, pieces, probes, routine};
+use crate::families::{damage, dealing, limits, nudges, pieces, probes, routine};
 use crate::random::Random;
 use lines::listing;
 use reference::{
@@ -43,7 +43,7 @@ impl RunFamily {
     }
 }
 
-/// Every family of the comparison; together more than 300,000 runs.
+/// Every family of the comparison; together more than 400,000 runs.
 pub fn all_runs() -> Vec<RunFamily> {
     let family = |name, seed, batches, make| RunFamily { name, seed, batches, make };
     vec![
@@ -58,6 +58,10 @@ pub fn all_runs() -> Vec<RunFamily> {
         family("512 and 513 points", 109, 1_500, many_points),
         family("quotients of values at and beside a half", 110, 16_000, quotients::of_values),
         family("quotients of ranges, from states that meet them", 111, 12_000, quotients::of_ranges),
+        family("remainders of values at 0, 1 and the greatest", 112, 12_000, remainders::of_values),
+        family("remainders of ranges, from states that meet them", 113, 16_000, remainders::of_ranges),
+        family("routines that divide with remainder", 114, 2_000, dealing_routines),
+        family("one register for quotient and remainder", 115, 3_000, one_register_twice),
     ]
 }
 
@@ -72,8 +76,17 @@ pub(super) fn trial(random: &mut Random, listing: &[u8], start: Start, runs: usi
 /// Routines from several starts, each taken up again a few times.
 fn routines(random: &mut Random) -> Vec<Trial> {
     let text = routine(random).text();
-    let points = read(&text).expect("a routine passes");
-    (0..3).filter_map(|_| from_any_point(random, &text, &points, 4)).collect()
+    from_several_points(random, &text)
+}
+
+fn dealing_routines(random: &mut Random) -> Vec<Trial> {
+    let text = dealing(random).text();
+    from_several_points(random, &text)
+}
+
+fn from_several_points(random: &mut Random, text: &[u8]) -> Vec<Trial> {
+    let points = read(text).expect("a routine passes");
+    (0..3).filter_map(|_| from_any_point(random, text, &points, 4)).collect()
 }
 
 fn from_any_point(random: &mut Random, text: &[u8], points: &Listing, most: usize) -> Option<Trial> {
@@ -209,6 +222,17 @@ fn long_table(random: &mut Random) -> Vec<u8> {
 fn turned_back(random: &mut Random) -> Vec<Trial> {
     let makers = [damage::damaged, damage::damaged_twice, limits::fields, limits::claim_order, nudges::nudged];
     let make = random.pick(&makers);
+    from_any_state(random, make)
+}
+
+/// Both results of a DIVM in one register, alone or beside other faults.
+fn one_register_twice(random: &mut Random) -> Vec<Trial> {
+    let makers = [damage::one_register_twice, damage::one_register_twice, limits::fields_of_div_mod];
+    let make = random.pick(&makers);
+    from_any_state(random, make)
+}
+
+fn from_any_state(random: &mut Random, make: fn(&mut Random) -> Vec<Vec<u8>>) -> Vec<Trial> {
     let mut trials = Vec::new();
     for text in make(random) {
         let start = any(random, 8);

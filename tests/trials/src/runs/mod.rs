@@ -5,6 +5,7 @@ mod call;
 mod comparison;
 mod families;
 mod quotients;
+mod remainders;
 mod resume;
 mod shrink;
 mod starts;

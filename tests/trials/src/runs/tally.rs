@@ -1,10 +1,12 @@
 //! How often each outcome of a run came up.
 
+use reference::refusals::ONE_REGISTER_TWICE;
 use reference::{Outcome, Run};
 
-/// Stopped, paused, and refused by 1 to 17.
-const OUTCOMES: usize = 19;
+/// Stopped, paused, and refused by 1 to 17 and by 19.
+const OUTCOMES: usize = 20;
 const FIRST_REFUSAL: usize = 2;
+const LAST: usize = OUTCOMES - 1;
 /// Each outcome must come up at least once in this many runs.
 const RAREST: u64 = 1000;
 
@@ -18,6 +20,7 @@ fn name(column: usize) -> String {
     match column {
         0 => "stopped".to_string(),
         1 => "paused".to_string(),
+        LAST => format!("{ONE_REGISTER_TWICE}"),
         other => format!("{}", other + 1 - FIRST_REFUSAL),
     }
 }
@@ -27,6 +30,7 @@ impl RunTally {
         let column = match run.outcome {
             Outcome::Stopped => 0,
             Outcome::Paused => 1,
+            Outcome::Refused(refusal) if refusal.number == ONE_REGISTER_TWICE => LAST,
             Outcome::Refused(refusal) => refusal.number as usize - 1 + FIRST_REFUSAL,
         };
         self.counts[column] += 1;

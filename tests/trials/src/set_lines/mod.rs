@@ -7,6 +7,7 @@ mod fields;
 mod laws;
 mod models;
 mod places;
+mod registers;
 mod several;
 mod tally;
 mod words;

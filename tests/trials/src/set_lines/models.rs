@@ -14,6 +14,9 @@ pub struct Model {
 
 const NONE: &[Whole] = &[];
 const REGISTER: &[Whole] = &[0, 1, 9, 10, 15];
+/// Two parts of the registers, for fields that must not name the same one.
+const EVEN: &[Whole] = &[0, 2, 10, 14];
+const ODD: &[Whole] = &[1, 9, 11, 15];
 const VARIABLE: &[Whole] = &[0, 1, 9, 10, 15, 16, 17];
 const SIZE: &[Whole] = &[16, 17];
 const WIDTH: &[Whole] = &[1, 2, 4];
@@ -56,7 +59,7 @@ const fn range_end(word: &'static [u8; 4], variable: &'static [Whole], end: &'st
 }
 
 /// Every word, with each kind of operand, register and size, a z and none.
-pub const MODELS: [Model; 24] = [
+pub const MODELS: [Model; 26] = [
     Model { word: b"STOP", fields: [NONE; 6] },
     range_end(b"SETC", REGISTER, VALUE),
     Model { word: b"COPY", fields: [REGISTER, VARIABLE, NONE, NONE, NONE, NONE] },
@@ -68,6 +71,8 @@ pub const MODELS: [Model; 24] = [
     arithmetic(b"MULW", IS_NUMBER, VALUE),
     arithmetic(b"DIVF", IS_VARIABLE, VARIABLE),
     arithmetic(b"DIVF", IS_NUMBER, VALUE),
+    Model { word: b"DIVM", fields: [EVEN, VARIABLE, ODD, NONE, IS_VARIABLE, VARIABLE] },
+    Model { word: b"DIVM", fields: [ODD, VARIABLE, EVEN, NONE, IS_NUMBER, VALUE] },
     Model { word: b"LOAD", fields: [REGISTER, WIDTH, TABLE, SCALE, VARIABLE, OFFSET] },
     Model { word: b"STOR", fields: [VARIABLE, WIDTH, NONE, SCALE, VARIABLE, OFFSET] },
     Model { word: b"JUMP", fields: [NONE, NONE, NONE, TARGET, NONE, NONE] },
