@@ -421,9 +421,9 @@ sameRegisterLast =
     ∷ row "STOP" "" "" "" "" "" ""
     ∷ [])
 
--- seeds dealt into packets of 12: a tray's seeds in two bytes, its packets in two bytes of the results and the leftover in one more; q and r hold them
-abbrev packets : String → String → List ℕ
-packets q r =
+-- seeds dealt into packets of 12: a tray's seeds in two bytes, its packets in two bytes of the results and the leftover in one more
+abbrev packets : List ℕ
+packets =
     rows
     (row "STRP" "16" "2" "1" "" "" "0"
     ∷ row "STRP" "17" "3" "1" "" "" "0"
@@ -441,7 +441,7 @@ packets q r =
     ∷ row "STRP" "16" "2" "1" "" "" "0"
     ∷ row "STRP" "17" "3" "1" "" "" "0"
     ∷ row "STRP" "17" "3" "0" "" "" "3"
-    ∷ row "DIVM" q "2" r "" "1" "12"
+    ∷ row "DIVM" "3" "2" "4" "" "1" "12"
     ∷ row "MOST" "3" "" "" "" "" "5461"
     ∷ row "MOST" "4" "" "" "" "" "11"
     ∷ row "STRP" "16" "2" "1" "" "" "0"
@@ -459,6 +459,18 @@ packets q r =
     ∷ row "STRP" "16" "2" "1" "" "" "0"
     ∷ row "STRP" "17" "3" "1" "" "" "0"
     ∷ row "JUMP" "" "" "" "1" "" ""
+    ∷ [])
+
+-- register 0 dealt into packets of 12, with the greatest quotient and remainder claimed after it
+abbrev dealtWithin : List ℕ
+dealtWithin =
+    rows
+    (row "MOST" "0" "" "" "" "" "65535"
+    ∷ row "DIVM" "1" "0" "2" "" "1" "12"
+    ∷ row "MOST" "1" "" "" "" "" "5461"
+    ∷ row "MOST" "2" "" "" "" "" "11"
+    ∷ row "COPY" "3" "2" "" "" "" ""
+    ∷ row "STOP" "" "" "" "" "" ""
     ∷ [])
 
 -- a state at a point whose first registers hold these numbers and the others 0
@@ -743,12 +755,12 @@ table =
     ∷ setsNothing "DIVM" (six (Number 4) (Number 18) (Number 4) (Number 0) (Number 0) (Number 4)) 3 40 (refusedBy 4 3 0)
     ∷ setsNothing "DIVM" (six (Number 4) (Number 17) (Number 5) Blank (Number 0) (Number 4)) 3 40 (refusedBy 18 0 0)
     -- seeds dealt into packets: 30 are 2 packets and 6 seeds, 1,000 are 83 packets and 4 seeds
-    ∷ checked (packets "3" "4") (passes 9)
-    ∷ checked (packets "3" "3") (refusedBy 19 17 0)
-    ∷ runs (packets "3" "4") (standing 0 0 2 0) twoTrays (replicate 6 255) 16 (afterRun stops 16 (holding 2 (2 ∷ 2 ∷ 1000 ∷ 83 ∷ 4 ∷ [])) twoTrays (2 ∷ 0 ∷ 6 ∷ 83 ∷ 0 ∷ 4 ∷ []))
-    -- a run that is halted after its first DIVM stands within the claims there, and goes on from it
-    ∷ runs (packets "3" "4") (standing 0 0 2 0) twoTrays (replicate 6 255) 4 (afterRun pauses 4 (holding 5 (0 ∷ 2 ∷ 30 ∷ 2 ∷ 6 ∷ [])) twoTrays (replicate 6 255))
-    ∷ runs (packets "3" "4") (holding 5 (0 ∷ 2 ∷ 30 ∷ 2 ∷ 6 ∷ [])) twoTrays (replicate 6 255) 12 (afterRun stops 12 (holding 2 (2 ∷ 2 ∷ 1000 ∷ 83 ∷ 4 ∷ [])) twoTrays (2 ∷ 0 ∷ 6 ∷ 83 ∷ 0 ∷ 4 ∷ []))
+    ∷ checked packets (passes 9)
+    ∷ runs packets (standing 0 0 2 0) twoTrays (replicate 6 255) 16 (afterRun stops 16 (holding 2 (2 ∷ 2 ∷ 1000 ∷ 83 ∷ 4 ∷ [])) twoTrays (2 ∷ 0 ∷ 6 ∷ 83 ∷ 0 ∷ 4 ∷ []))
+    -- a run that is halted after a DIVM stands within the claims there, and goes on from it; a remainder of 12 would not
+    ∷ runs dealtWithin (standing 0 1000 0 0) [] [] 1 (afterRun pauses 1 (standing 1 1000 83 4) [] [])
+    ∷ runs dealtWithin (standing 1 1000 83 4) [] [] 1 (afterRun stops 1 (holding 2 (1000 ∷ 83 ∷ 4 ∷ 4 ∷ [])) [] [])
+    ∷ runs dealtWithin (standing 1 1000 83 12) [] [] 1 (afterRun (refusedBy 17 0 0) 0 (standing 1 1000 83 12) [] [])
     ∷ []
 
 -- what the definitions give in a case
