@@ -1,4 +1,4 @@
-pub mod Digits
 pub mod FourBytes
 pub mod FieldColumns
 pub mod Shapes
+pub mod KeptShapes

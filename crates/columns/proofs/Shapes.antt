@@ -13,7 +13,7 @@ use Rattle.model.specs.declared.text.Shape.the-variants.{Spaces, Zero, Digits, 
 use Rattle.model.specs.declared.text.Field.the-variants.{Blank, Number, Negative, Misshapen}
 use Rattle.model.specs.Text.{space, isDigit, digitOf, nextShape, shapeOf, digitsOf, fieldOf}
 use Rattle.model.proofs.Tests.{and-left, and-right}
-use Rattle.columns.proofs.Digits.{digit-byte}
+use Rattle.model.proofs.Digits.{digit-byte}
 
 -- a digit that may lead
 abbrev leading : ℕ → Bool

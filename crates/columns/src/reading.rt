@@ -1,98 +1,21 @@
 // The columns of a field, read: spaces, then a minus or none, then digits.
+use crate::field::BLANK;
+use crate::field::KeptField;
+use crate::field::MISSHAPEN;
+use crate::field::NUMBER;
 use crate::fours;
-use model::text::Field;
+use crate::gathering::digit;
+use crate::gathering::gather_long;
+use crate::gathering::gather_short;
+use crate::gathering::is_leading;
 ghost use mathlib.Core.Path.{_≡_};
-ghost use mathlib.Core.Bool.{true, false, _&&_, cond};
+ghost use mathlib.Core.Bool.{true, false};
 ghost use Prim.Native.Nat.{_+_, _≤_, _<_};
 ghost use lib.ListN.{length, getD};
-ghost use lib.Dec.{leb, eqb};
-ghost use Rattle.model.specs.declared.text.Field.the-variants.{Blank};
-ghost use Rattle.model.specs.declared.text.Shape.the-variants.{Spaces, Digits, Sign, Signed};
-ghost use Rattle.model.specs.Text.{space, isDigit, digitOf, shapeOf, digitsOf, fieldOf};
-
-// A decimal digit.
-fn is_digit(b: u8) -> bool
-    ensures { λ r. ⌜ r ≡ isDigit b ⌝ }
-{
-    (b'0' <= b) & (b <= b'9')
-}
-
-// A digit that a number of several digits may begin with.
-fn is_leading(b: u8) -> bool
-    ensures { λ r. ⌜ r ≡ (leb 49 b && leb b 57) ⌝ }
-{
-    (b'1' <= b) & (b <= b'9')
-}
-
-// The value of a digit.
-fn digit(b: u8) -> u64
-    requires { ⌜ isDigit b ≡ true ⌝ }
-    ensures { λ r. ⌜ r ≡ digitOf b ⌝ }
-{
-    (b - b'0') as u64
-}
-
-// The field where the first i columns end in digits of the number first, after a minus or not.
-fn read_digits(l: &[u8], at: usize, i: usize, n: usize, first: u64, negative: bool) -> Field
-    requires { ⌜ (at + n ≤ length (now l)) × (n ≤ 15) × (i ≤ n) ⌝ }
-    requires { ⌜ (shapeOf (now l) at i ≡ cond negative Signed Digits) × (first ≡ digitsOf (now l) at i) ⌝ }
-    ensures { λ r. ⌜ r ≡ fieldOf (now (l .entry)) at n ⌝ }
-{
-    let mut v = first;
-    let mut j = i;
-    while j < n {
-        let b = l[at + j];
-        if is_digit(b) {
-            v = v * 10 + digit(b);
-            j += 1;
-        } else {
-            return Field::Misshapen;
-        }
-    }
-    if negative {
-        return Field::Negative(v);
-    }
-    Field::Number(v)
-}
-
-// The field where column i, counted from 0, is the first after the minus.
-fn read_negative(l: &[u8], at: usize, i: usize, n: usize) -> Field
-    requires { ⌜ (at + n ≤ length (now l)) × (n ≤ 15) × (i ≤ n) ⌝ }
-    requires { ⌜ (shapeOf (now l) at i ≡ Sign) × (digitsOf (now l) at i ≡ 0) ⌝ }
-    ensures { λ r. ⌜ r ≡ fieldOf (now (l .entry)) at n ⌝ }
-{
-    if i == n {
-        return Field::Misshapen;
-    }
-    let b = l[at + i];
-    if is_leading(b) {
-        return read_digits(l, at, i + 1, n, digit(b), true);
-    }
-    Field::Misshapen
-}
-
-// The field where column i is the first that is no space.
-fn read_filled(l: &[u8], at: usize, i: usize, n: usize) -> Field
-    requires { ⌜ (at + n ≤ length (now l)) × (n ≤ 15) × (i < n) ⌝ }
-    requires { ⌜ (shapeOf (now l) at i ≡ Spaces) × (digitsOf (now l) at i ≡ 0) × (eqb (getD (now l) (at + i) 0) space ≡ false) ⌝ }
-    ensures { λ r. ⌜ r ≡ fieldOf (now (l .entry)) at n ⌝ }
-{
-    let b = l[at + i];
-    let next = i + 1;
-    if is_leading(b) {
-        return read_digits(l, at, next, n, digit(b), false);
-    }
-    if b == b'-' {
-        return read_negative(l, at, next, n);
-    }
-    if b == b'0' {
-        if next == n {
-            return Field::Number(0);
-        }
-        return Field::Misshapen;
-    }
-    Field::Misshapen
-}
+ghost use lib.Dec.{eqb};
+ghost use Rattle.model.specs.declared.text.Shape.the-variants.{Spaces, Sign};
+ghost use Rattle.model.specs.Text.{space, shapeOf, digitsOf, fieldOf};
+ghost use Rattle.columns.specs.Kept.{keptSigned, keptPlain};
 
 // Whether the four columns after the first i, which are spaces, are spaces too.
 fn four_more(l: &[u8], at: usize, i: usize) -> bool
@@ -139,37 +62,121 @@ fn skip_spaces(l: &[u8], at: usize, n: usize) -> usize
     i
 }
 
-// Four columns, as most fields have, that are all spaces.
-fn is_blank_four(l: &[u8], at: usize, n: usize) -> bool
-    requires { ⌜ at + n ≤ length (now l) ⌝ }
-    ensures { λ r. ⌜ (r ≡ true → fieldOf (now (l .entry)) at n ≡ Blank) ⌝ }
+// A field without a minus, where column i is the first that is no space.
+fn read_plain(l: &[u8], at: usize, i: usize, n: usize) -> KeptField
+    requires { ⌜ (at + n ≤ length (now l)) × (n ≤ 4) × (i < n) ⌝ }
+    requires { ⌜ (shapeOf (now l) at i ≡ Spaces) × (digitsOf (now l) at i ≡ 0) × (eqb (getD (now l) (at + i) 0) space ≡ false) ⌝ }
+    ensures { λ r. ⌜ r ≡ keptPlain (fieldOf (now (l .entry)) at n) ⌝ }
 {
-    if n == 4 {
-        return fours::same(
-            l[at],
-            l[at + 1],
-            l[at + 2],
-            l[at + 3],
-            b' ',
-            b' ',
-            b' ',
-            b' ',
-        );
+    let b = l[at + i];
+    let next = i + 1;
+    if is_leading(b) {
+        return gather_short(l, at, next, n, digit(b) as u16);
     }
-    false
+    if b == b'0' {
+        if next == n {
+            return KeptField {
+                shape: NUMBER,
+                number: 0,
+            };
+        }
+        return KeptField {
+            shape: MISSHAPEN,
+            number: 0,
+        };
+    }
+    KeptField {
+        shape: MISSHAPEN,
+        number: 0,
+    }
 }
 
-// The field that the n columns from column at on hold.
-pub fn read_field(l: &[u8], at: usize, n: usize) -> Field
-    requires { ⌜ (at + n ≤ length (now l)) × (n ≤ 15) ⌝ }
-    ensures { λ r. ⌜ r ≡ fieldOf (now (l .entry)) at n ⌝ }
+// What is kept of the four columns from column at on, where no word asks for a minus.
+pub fn read_short(l: &[u8], at: usize) -> KeptField
+    requires { ⌜ at + 4 ≤ length (now l) ⌝ }
+    ensures { λ r. ⌜ r ≡ keptPlain (fieldOf (now (l .entry)) at 4) ⌝ }
 {
-    if is_blank_four(l, at, n) {
-        return Field::Blank;
+    if four_more(l, at, 0) {
+        return KeptField {
+            shape: BLANK,
+            number: 0,
+        };
     }
-    let i = skip_spaces(l, at, n);
+    let i = skip_spaces(l, at, 4);
+    if i == 4 {
+        return KeptField {
+            shape: BLANK,
+            number: 0,
+        };
+    }
+    read_plain(l, at, i, 4)
+}
+
+// The field where column i, counted from 0, is the first after the minus.
+fn read_negative(l: &[u8], at: usize, i: usize, n: usize) -> KeptField
+    requires { ⌜ (at + n ≤ length (now l)) × (n ≤ 15) × (i ≤ n) ⌝ }
+    requires { ⌜ (shapeOf (now l) at i ≡ Sign) × (digitsOf (now l) at i ≡ 0) ⌝ }
+    ensures { λ r. ⌜ r ≡ keptSigned (fieldOf (now (l .entry)) at n) ⌝ }
+{
     if i == n {
-        return Field::Blank;
+        return KeptField {
+            shape: MISSHAPEN,
+            number: 0,
+        };
     }
-    read_filled(l, at, i, n)
+    let b = l[at + i];
+    if is_leading(b) {
+        return gather_long(l, at, i + 1, n, digit(b) as u64, true);
+    }
+    KeptField {
+        shape: MISSHAPEN,
+        number: 0,
+    }
+}
+
+// A field that may have a minus, where column i is the first that is no space.
+fn read_signed(l: &[u8], at: usize, i: usize, n: usize) -> KeptField
+    requires { ⌜ (at + n ≤ length (now l)) × (n ≤ 15) × (i < n) ⌝ }
+    requires { ⌜ (shapeOf (now l) at i ≡ Spaces) × (digitsOf (now l) at i ≡ 0) × (eqb (getD (now l) (at + i) 0) space ≡ false) ⌝ }
+    ensures { λ r. ⌜ r ≡ keptSigned (fieldOf (now (l .entry)) at n) ⌝ }
+{
+    let b = l[at + i];
+    let next = i + 1;
+    if is_leading(b) {
+        return gather_long(l, at, next, n, digit(b) as u64, false);
+    }
+    if b == b'-' {
+        return read_negative(l, at, next, n);
+    }
+    if b == b'0' {
+        if next == n {
+            return KeptField {
+                shape: NUMBER,
+                number: 0,
+            };
+        }
+        return KeptField {
+            shape: MISSHAPEN,
+            number: 0,
+        };
+    }
+    KeptField {
+        shape: MISSHAPEN,
+        number: 0,
+    }
+}
+
+// What is kept of the fifteen columns from column at on.
+pub fn read_long(l: &[u8], at: usize) -> KeptField
+    requires { ⌜ at + 15 ≤ length (now l) ⌝ }
+    ensures { λ r. ⌜ r ≡ keptSigned (fieldOf (now (l .entry)) at 15) ⌝ }
+{
+    let i = skip_spaces(l, at, 15);
+    if i == 15 {
+        return KeptField {
+            shape: BLANK,
+            number: 0,
+        };
+    }
+    read_signed(l, at, i, 15)
 }

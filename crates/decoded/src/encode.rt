@@ -17,12 +17,22 @@ use crate::kinds::STOR;
 use crate::kinds::STRP;
 use crate::kinds::SUBW;
 use crate::rows::Row;
-use columns::field::value;
+use columns::field::BLANK;
+use columns::field::KeptFields;
+use columns::field::NEGATIVE;
+use columns::field::fourth_shape;
+use columns::field::sixth_shape;
 use model::limits::BLANK_VARIABLE;
-use model::text::Field;
 use model::text::Word;
 ghost use mathlib.Core.Path.{_≡_};
-ghost use Rattle.model.specs.Lines.{variableOrBlank, plusIn, minusIn};
+ghost use mathlib.Core.Bool.{true, cond};
+ghost use mathlib.Core.List.{List};
+ghost use lib.Dec.{eqb};
+ghost use Rattle.model.specs.declared.text.Field.{Field};
+ghost use Rattle.model.specs.Limits.{blankVariable};
+ghost use Rattle.model.specs.Lines.{inShape};
+ghost use Rattle.columns.specs.Kept as Kept;
+ghost use Rattle.columns.specs.Kept.{keptFields};
 ghost use Rattle.decoded.specs.Encoded.{kindOf, rowOf, refusedRow};
 
 // The kind of row that a word has.
@@ -49,61 +59,51 @@ fn kind_of(w: Word) -> u64
     }
 }
 
-// The variable z.
-fn variable_or_blank(f: Field) -> u64
-    ensures { λ r. ⌜ r ≡ variableOrBlank f ⌝ }
+// The variable z, of a field of this shape and number.
+fn variable_or_blank(shape: u8, v: u64) -> u64
+    ensures { λ r. ⌜ r ≡ cond (eqb shape Kept.BLANK) blankVariable v ⌝ }
 {
-    match f {
-        Field::Blank => BLANK_VARIABLE as u64,
-        Field::Number(v) => v,
-        Field::Negative(v) => v,
-        Field::Misshapen => BLANK_VARIABLE as u64,
+    if shape == BLANK {
+        return BLANK_VARIABLE as u64;
     }
+    v
 }
 
-// What a bound adds.
-fn plus_in(f: Field) -> u64
-    ensures { λ r. ⌜ r ≡ plusIn f ⌝ }
+// What a bound of this shape and number adds.
+fn plus_in(shape: u8, v: u64) -> u64
+    ensures { λ r. ⌜ r ≡ cond (eqb shape Kept.NEGATIVE) 0 v ⌝ }
 {
-    match f {
-        Field::Blank => 0,
-        Field::Number(v) => v,
-        Field::Negative(_) => 0,
-        Field::Misshapen => 0,
+    if shape == NEGATIVE {
+        return 0;
     }
+    v
 }
 
-// What a bound takes away.
-fn minus_in(f: Field) -> u64
-    ensures { λ r. ⌜ r ≡ minusIn f ⌝ }
+// What a bound of this shape and number takes away.
+fn minus_in(shape: u8, v: u64) -> u64
+    ensures { λ r. ⌜ r ≡ cond (eqb shape Kept.NEGATIVE) v 0 ⌝ }
 {
-    match f {
-        Field::Blank => 0,
-        Field::Number(_) => 0,
-        Field::Negative(v) => v,
-        Field::Misshapen => 0,
+    if shape == NEGATIVE {
+        return v;
     }
+    0
 }
 
-// The row of a word whose fields are accepted.
-pub fn row_of(w: Word, fs: [Field; 6]) -> Row
-    ensures { λ r. ⌜ r ≡ rowOf w fs ⌝ }
+// The row of a word whose fields are in shape.
+pub fn row_of(w: Word, x: KeptFields) -> Row
+    ensures { λ r. ⌜ ((fs : List Field) → x ≡ keptFields fs → inShape w fs ≡ true → r ≡ rowOf w fs) ⌝ }
 {
-    let f1 = fs[0];
-    let f2 = fs[1];
-    let f3 = fs[2];
-    let f4 = fs[3];
-    let f5 = fs[4];
-    let f6 = fs[5];
+    let fourth = fourth_shape(x.shapes);
+    let sixth = sixth_shape(x.shapes);
     Row {
         kind: kind_of(w),
-        first: value(f1),
-        second: value(f2),
-        third: value(f3),
-        fourth: variable_or_blank(f4),
-        fifth: value(f5),
-        sixth: plus_in(f6),
-        seventh: minus_in(f6),
+        first: x.first,
+        second: x.second,
+        third: x.third,
+        fourth: variable_or_blank(fourth, x.fourth),
+        fifth: x.fifth,
+        sixth: plus_in(sixth, x.sixth),
+        seventh: minus_in(sixth, x.sixth),
     }
 }
 

@@ -1,5 +1,5 @@
 // The lines of a listing: 40 bytes read as a word and six fields, and judged.
-mod faults;
+mod asked;
 pub mod fields;
 pub mod line;
 mod table;

@@ -1,13 +1,13 @@
 // A line of 40 bytes: its spelling and its six fields.
-use columns::field::width;
-use columns::reading::read_field;
-use model::text::Field;
+use columns::field::KeptFields;
+use columns::reading::read_long;
+use columns::reading::read_short;
 ghost use mathlib.Core.Path.{_≡_};
-ghost use Prim.Native.Nat.{ℕ, _<_};
+ghost use Prim.Native.Nat.{ℕ};
 ghost use lib.ListN.{length, getD};
 ghost use Rattle.model.specs.Lists.{everyBelow};
-ghost use Rattle.model.specs.Text.{fieldOf};
-ghost use Rattle.model.specs.Lines.{printable, wellSpelled, columnOf, widthOf, fieldsIn};
+ghost use Rattle.model.specs.Lines.{printable, wellSpelled, fieldsIn};
+ghost use Rattle.columns.specs.Kept.{keptFields};
 
 // A byte that may stand in columns 1 to 39: counted from the space on, one comparison tells both limits.
 fn is_printable(b: u8) -> bool
@@ -38,25 +38,28 @@ pub fn is_well_spelled(l: &[u8]) -> bool
     all_printable(l) & (l[39] == b'\n')
 }
 
-// Field j, counted from 0.
-fn read_at(l: &[u8], j: usize) -> Field
-    requires { ⌜ (length (now l) ≡ 40) × (j < 6) ⌝ }
-    ensures { λ r. ⌜ r ≡ fieldOf (now (l .entry)) (columnOf j) (widthOf j) ⌝ }
-{
-    let n = width(j);
-    read_field(l, 4 + j * 4, n)
-}
-
-// The six fields of a line.
-pub fn read_fields(l: &[u8]) -> [Field; 6]
+// What is kept of the six fields of a line. F1 to F5 are read in a loop, so that one reader of them is compiled into it.
+pub fn read_fields(l: &[u8]) -> KeptFields
     requires { ⌜ length (now l) ≡ 40 ⌝ }
-    ensures { λ r. ⌜ r ≡ fieldsIn (now (l .entry)) ⌝ }
+    ensures { λ r. ⌜ r ≡ keptFields (fieldsIn (now (l .entry))) ⌝ }
 {
-    let f1 = read_at(l, 0);
-    let f2 = read_at(l, 1);
-    let f3 = read_at(l, 2);
-    let f4 = read_at(l, 3);
-    let f5 = read_at(l, 4);
-    let f6 = read_at(l, 5);
-    [f1, f2, f3, f4, f5, f6]
+    let mut numbers = [0u64; 5];
+    let mut shapes: u32 = 0;
+    let mut j = 0;
+    while j < 5 {
+        let f = read_short(l, 4 + j * 4);
+        numbers[j] = f.number;
+        shapes = shapes * 4 + f.shape as u32;
+        j += 1;
+    }
+    let last = read_long(l, 24);
+    KeptFields {
+        shapes: shapes * 4 + last.shape as u32,
+        first: numbers[0],
+        second: numbers[1],
+        third: numbers[2],
+        fourth: numbers[3],
+        fifth: numbers[4],
+        sixth: last.number,
+    }
 }

@@ -1,73 +1,141 @@
 // The table of the words: what each asks of its six fields.
-use crate::faults::bound;
-use crate::faults::choice;
-use crate::faults::claimed;
-use crate::faults::empty;
-use crate::faults::greatest;
-use crate::faults::number;
-use crate::faults::offset;
-use crate::faults::operand;
-use crate::faults::reg;
-use crate::faults::scale;
-use crate::faults::table;
-use crate::faults::target;
-use crate::faults::var;
-use crate::faults::var_or_empty;
-use crate::faults::width;
-use model::text::Field;
+use crate::asked::AskedRow;
+use crate::asked::bound;
+use crate::asked::choice;
+use crate::asked::claimed;
+use crate::asked::empty;
+use crate::asked::number;
+use crate::asked::offset;
+use crate::asked::operand;
+use crate::asked::reg;
+use crate::asked::row;
+use crate::asked::scale;
+use crate::asked::table;
+use crate::asked::target;
+use crate::asked::var;
+use crate::asked::var_or_empty;
+use crate::asked::width;
+use columns::field::KeptFields;
+use columns::field::fourth_shape;
+use columns::field::sixth_shape;
+use model::answers::Judgement;
+use model::answers::Refusal;
 use model::text::Word;
 ghost use mathlib.Core.Path.{_≡_};
-ghost use Rattle.lines.specs.Faults.{faultIn};
+ghost use mathlib.Core.List.{List};
+ghost use Rattle.model.specs.declared.text.Field.{Field};
+ghost use Rattle.model.specs.declared.text.FoundWord.the-variants.{Known};
+ghost use Rattle.model.specs.Lines.{judged};
+ghost use Rattle.columns.specs.Kept.{keptFields};
+ghost use Rattle.lines.specs.Asked.{rowJudged};
 
-// The greatest fault of a word's fields F1 to F6, here a to f: a row for each word, or for several that ask the same.
-pub(crate) fn fault_in(w: Word, fs: [Field; 6]) -> u8
-    ensures { λ r. ⌜ r ≡ faultIn w fs ⌝ }
+// 4, 5 and 19 by what a row asks: every shape before any limit, and the registers that are written last.
+fn judge_row(place: usize, shapes: u32, r: AskedRow, differ: bool) -> Judgement
+    ensures { λ j. ⌜ j ≡ rowJudged place shapes r differ ⌝ }
 {
-    let a = fs[0];
-    let b = fs[1];
-    let c = fs[2];
-    let d = fs[3];
-    let e = fs[4];
-    let f = fs[5];
+    if shapes != r.shapes {
+        return Judgement::Refused(Refusal::FieldShape { line: place });
+    }
+    if !r.allowed {
+        return Judgement::Refused(Refusal::NumberLimits { line: place });
+    }
+    if !differ {
+        return Judgement::Refused(Refusal::SameRegister { line: place });
+    }
+    Judgement::Accepted
+}
+
+// 4, 5 and 19 of a word's fields F1 to F6, whose numbers are here a to f: a row for each word, or for several that ask the same. DIVM alone writes two registers.
+pub(crate) fn judge_known(place: usize, w: Word, x: KeptFields) -> Judgement
+    ensures { λ j. ⌜ ((fs : List Field) → x ≡ keptFields fs → j ≡ judged place (Known w) fs) ⌝ }
+{
+    let s = x.shapes;
+    let a = x.first;
+    let b = x.second;
+    let c = x.third;
+    let d = x.fourth;
+    let e = x.fifth;
+    let f = x.sixth;
     match w {
-        Word::Stop => greatest(empty(a), empty(b), empty(c), empty(d), empty(e), empty(f)),
-        Word::Setc => greatest(reg(a), empty(b), empty(c), empty(d), empty(e), number(f)),
-        Word::Copy => greatest(reg(a), var(b), empty(c), empty(d), empty(e), empty(f)),
-        Word::Addw | Word::Subw | Word::Mulw | Word::Divf => greatest(
-            reg(a),
-            var(b),
-            empty(c),
-            empty(d),
-            choice(e),
-            operand(f, e),
+        Word::Stop => judge_row(
+            place,
+            s,
+            row(empty(), empty(), empty(), empty(), empty(), empty()),
+            true,
         ),
-        Word::Load => greatest(reg(a), width(b), table(c), scale(d), var(e), offset(f)),
-        Word::Stor => greatest(var(a), width(b), empty(c), scale(d), var(e), offset(f)),
-        Word::Jump => greatest(empty(a), empty(b), empty(c), target(d), empty(e), empty(f)),
-        Word::Bltu | Word::Bequ => greatest(
-            empty(a),
-            var(b),
-            empty(c),
-            target(d),
-            choice(e),
-            operand(f, e),
+        Word::Setc => judge_row(
+            place,
+            s,
+            row(reg(a), empty(), empty(), empty(), empty(), number(f)),
+            true,
         ),
-        Word::Leas | Word::Most => greatest(
-            var(a),
-            empty(b),
-            empty(c),
-            empty(d),
-            empty(e),
-            claimed(f, a),
+        Word::Copy => judge_row(
+            place,
+            s,
+            row(reg(a), var(b), empty(), empty(), empty(), empty()),
+            true,
         ),
-        Word::Strp => greatest(
-            var(a),
-            scale(b),
-            var(c),
-            var_or_empty(d),
-            empty(e),
-            bound(f),
+        Word::Addw | Word::Subw | Word::Mulw | Word::Divf => judge_row(
+            place,
+            s,
+            row(reg(a), var(b), empty(), empty(), choice(e), operand(f, e)),
+            true,
         ),
-        Word::Divm => greatest(reg(a), var(b), reg(c), empty(d), choice(e), operand(f, e)),
+        Word::Load => judge_row(
+            place,
+            s,
+            row(reg(a), width(b), table(c), scale(d), var(e), offset(f)),
+            true,
+        ),
+        Word::Stor => judge_row(
+            place,
+            s,
+            row(var(a), width(b), empty(), scale(d), var(e), offset(f)),
+            true,
+        ),
+        Word::Jump => judge_row(
+            place,
+            s,
+            row(empty(), empty(), empty(), target(d), empty(), empty()),
+            true,
+        ),
+        Word::Bltu | Word::Bequ => judge_row(
+            place,
+            s,
+            row(
+                empty(),
+                var(b),
+                empty(),
+                target(d),
+                choice(e),
+                operand(f, e),
+            ),
+            true,
+        ),
+        Word::Leas | Word::Most => judge_row(
+            place,
+            s,
+            row(var(a), empty(), empty(), empty(), empty(), claimed(f, a)),
+            true,
+        ),
+        Word::Strp => judge_row(
+            place,
+            s,
+            row(
+                var(a),
+                scale(b),
+                var(c),
+                var_or_empty(fourth_shape(s), d),
+                empty(),
+                bound(sixth_shape(s), f),
+            ),
+            true,
+        ),
+        Word::Divm => judge_row(
+            place,
+            s,
+            row(reg(a), var(b), reg(c), empty(), choice(e), operand(f, e)),
+            a != c,
+        ),
     }
 }

@@ -1,5 +1,6 @@
 pub mod Tests
 pub mod Judgements
+pub mod Digits
 pub mod Meaning
 pub mod Follows
 pub mod Ranges

@@ -1,7 +1,7 @@
 -- Document 01, 'The machine': how a number stands in its columns, read and written.
 -- The columns are read as a shape and as digits, each a fold over the columns from the left; the writer sets them from the right.
 -- The number of columns is a parameter: four for F1 to F5, fifteen for F6.
-use Prim.Native.Nat.{ℕ, zero, suc, _+_, _*_, _-_, _/_, _%_}
+use Prim.Native.Nat.{ℕ, zero, suc, _+_, _*_, _-_, _/_, _%_, _^_, _<_}
 use mathlib.Core.Bool.{Bool, _&&_, cond}
 use mathlib.Core.List.{List}
 use lib.ListN.{getD, set}
@@ -55,6 +55,10 @@ unfoldable pub digitsOf : List ℕ → ℕ → ℕ → ℕ
 unfolding digitOf
 digitsOf s at zero = 0
 digitsOf s at (suc n) = digitsOf s at n * 10 + digitOf (getD s (at + n) 0)
+
+-- as a promise: n columns of digits hold a number of n places, below 10 to the power n
+abbrev pub DigitsBelow : Type 0
+DigitsBelow = (s : List ℕ) (at n : ℕ) → digitsOf s at n < 10 ^ n
 
 -- the field of a shape and a number
 abbrev pub fieldFrom : Shape → ℕ → Field

@@ -4,6 +4,7 @@ use crate::scan::Progress;
 use crate::scan::Sort;
 use crate::scan::after;
 use crate::scan::begin;
+use columns::field::KeptFields;
 use decoded::encode::refused_row;
 use decoded::encode::row_of;
 use decoded::rows::Row;
@@ -15,17 +16,19 @@ use lines::words::find_word;
 use model::answers::Judgement;
 use model::answers::Refusal;
 use model::limits::LINE_BYTES;
-use model::text::Field;
 use model::text::FoundWord;
 use model::text::Word;
 ghost use mathlib.Core.Path.{_≡_};
 ghost use Prim.Native.Nat.{_*_, _≤_};
+ghost use mathlib.Core.List.{List};
 ghost use lib.ListN.{length};
+ghost use Rattle.model.specs.declared.text.Field.{Field};
 ghost use Rattle.model.specs.declared.text.FoundWord.the-variants.{Known};
 ghost use Rattle.model.specs.declared.claims.Line.the-variants.{Refused as refusedLine};
 ghost use Rattle.model.specs.Limits.{lineBytes, greatestLines};
 ghost use Rattle.model.specs.Lines.{judged, lineFrom, lineOr, lineFound, readLine};
 ghost use Rattle.model.specs.Listing.{readTo};
+ghost use Rattle.columns.specs.Kept.{keptFields};
 ghost use Rattle.reader.specs.Scan.{progressOf, sortFrom};
 ghost use Rattle.reader.specs.Sizes.{placeNumbers};
 ghost use Rattle.reader.specs.Read.{ReadAs, ScannedSo};
@@ -71,13 +74,13 @@ fn sort_of(w: Word, v: u64) -> Sort
 }
 
 // A line of a word with its fields, or what turns them back.
-fn read_known(place: usize, w: Word, fs: [Field; 6]) -> Read
-    ensures { λ x. ⌜ ReadAs (lineOr (judged place (Known w) fs) (lineFrom w fs)) x ⌝ }
+fn read_known(place: usize, w: Word, k: KeptFields) -> Read
+    ensures { λ x. ⌜ ((fs : List Field) → k ≡ keptFields fs → ReadAs (lineOr (judged place (Known w) fs) (lineFrom w fs)) x) ⌝ }
 {
-    match judge(place, FoundWord::Known(w), fs) {
+    match judge(place, FoundWord::Known(w), k) {
         Judgement::Refused(r) => refused(r),
         Judgement::Accepted => {
-            let row = row_of(w, fs);
+            let row = row_of(w, k);
             let sort = sort_of(w, row.first);
             Read { row, sort }
         }
@@ -85,12 +88,12 @@ fn read_known(place: usize, w: Word, fs: [Field; 6]) -> Read
 }
 
 // As above, or what turns a line without a known word back.
-fn read_found(place: usize, w: FoundWord, fs: [Field; 6]) -> Read
-    ensures { λ x. ⌜ ReadAs (lineFound place w fs) x ⌝ }
+fn read_found(place: usize, w: FoundWord, k: KeptFields) -> Read
+    ensures { λ x. ⌜ ((fs : List Field) → k ≡ keptFields fs → ReadAs (lineFound place w fs) x) ⌝ }
 {
     match w {
         FoundWord::Unknown => refused(Refusal::UnknownWord { line: place }),
-        FoundWord::Known(word) => read_known(place, word, fs),
+        FoundWord::Known(word) => read_known(place, word, k),
     }
 }
 
@@ -101,8 +104,8 @@ fn read_bytes(place: usize, l: &[u8]) -> Read
 {
     if is_well_spelled(l) {
         let w = find_word(l);
-        let fs = read_fields(l);
-        return read_found(place, w, fs);
+        let k = read_fields(l);
+        return read_found(place, w, k);
     }
     refused(Refusal::LineBytes { line: place })
 }
@@ -123,12 +126,13 @@ pub(crate) fn read_lines(listing: &[u8], n: usize, rows: &mut [u64], at: &mut [u
         let x = read_bytes(k + 1, &listing[a..e]);
         let row = x.row;
         let sort = x.sort;
-        write_row(rows, k, row);
-        note(at, p, k, sort);
-        p = after(p, k, sort);
-        if let Progress::Turned(r) = p {
+        let q = after(p, k, sort);
+        if let Progress::Turned(r) = q {
             return Progress::Turned(r);
         }
+        write_row(rows, k, row);
+        note(at, p, k, sort);
+        p = q;
         k += 1;
     }
     p

@@ -1,5 +1,4 @@
 // A state as text: 17 lines like those of a listing, a JUMP to the point and then a SETC for each register, in order.
-use columns::field::value;
 use lines::fields::judge;
 use lines::line::is_well_spelled;
 use lines::line::read_fields;
@@ -62,9 +61,8 @@ fn target_on(l: &[u8]) -> Target
     ensures { λ r. ⌜ r ≡ targetOn (now (l .entry)) ⌝ }
 {
     if is_line_of(Word::Jump, l) {
-        let fs = read_fields(l);
-        let f4 = fs[3];
-        return Target::Point(value(f4) as usize);
+        let x = read_fields(l);
+        return Target::Point(x.fourth as usize);
     }
     Target::NoPoint
 }
@@ -77,11 +75,9 @@ fn setting_on(l: &[u8], v: usize) -> Setting
     if !is_line_of(Word::Setc, l) {
         return Setting::NoValue;
     }
-    let fs = read_fields(l);
-    let f1 = fs[0];
-    let f6 = fs[5];
-    if value(f1) == v as u64 {
-        return Setting::Value(value(f6) as u32);
+    let x = read_fields(l);
+    if x.first == v as u64 {
+        return Setting::Value(x.sixth as u32);
     }
     Setting::NoValue
 }

@@ -1,6 +1,7 @@
 // One line of a lent listing, set from a word, six fields and the line's number.
 pub mod kinds;
 
+use columns::field::kept_fields;
 use lines::fields::judge;
 use lines::words;
 use model::answers::Judgement;
@@ -69,7 +70,7 @@ fn set_known(w: Word, fs: [Field; 6], n: usize, s: &mut [u8]) -> Judgement
     ensures { λ r. ⌜ r ≡ (judged n (Known w) fs andThen roomFor n (length (now (s .entry)))) ⌝ }
     ensures { λ _. ⌜ now (s .exit) ≡ listingIf (judged n (Known w) fs andThen roomFor n (length (now (s .entry)))) (withLine (now (s .entry)) (n - 1) (textOf w) fs) (now (s .entry)) ⌝ }
 {
-    let judgement = judge(n, FoundWord::Known(w), fs);
+    let judgement = judge(n, FoundWord::Known(w), kept_fields(fs));
     let room = room_for(n, s.len());
     let both = first(judgement, room);
     if is_refused(both) {

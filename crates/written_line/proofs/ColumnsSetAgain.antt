@@ -17,7 +17,7 @@ use Rattle.model.specs.declared.text.Field.the-variants.{Blank, Number, Negativ
 use Rattle.model.specs.Text.{isDigit, digitOf, nextShape, shapeOf, digitsOf, fieldFrom, fieldOf, valueIn, lastByte, shapeBefore, columnsSet, shapeFor, fieldSet}
 use Rattle.model.proofs.Tests.{cond-cases}
 use Rattle.written_line.specs.Columns.{Taken, FieldIsSet}
-use Rattle.columns.proofs.Digits.{digit-byte, digit-below}
+use Rattle.model.proofs.Digits.{digit-byte, digit-below}
 use Rattle.written_line.proofs.ColumnsRead.{Holds}
 
 digit-back : (b : ℕ) → isDigit b ≡ true → 48 + digitOf b ≡ b

@@ -4,16 +4,12 @@ use Rattle.model.specs.Lines.{judged}
 use Rattle.lines.proofs.fields.judge.Statement.{statement}
 use Rattle.lines.proofs.fields.judge.Tie as tie
 
-enum-told : tie.Need-enum-told
-enum-told c = search needs
-
 returns : tie.Need-returns
 unfolding judged
-returns c = simp (c .enum-told .given .1)
+returns c fs e = rw (c .enum-told .given .1)
 
 returns-2 : tie.Need-returns-2
-unfolding judged
-returns-2 c = simp (← c .judge-known .ensures, c .before .before .w .given .1)
+returns-2 c fs e = rw (c .before .before .w .given .1) (c .judge-known .ensures fs e)
 
 pub judge-spec : {M : Type 1} → statement M
-judge-spec = tie.close (tie.spec enum-told (λ c. search needs) (λ c κs. search needs) returns returns-2)
+judge-spec = tie.close (tie.spec (λ c. search needs) (λ c. search needs) (λ c κs. search needs) returns returns-2)
