@@ -9,7 +9,7 @@ use Rattle.writer.proofs.set_known.Tie as tie
 
 returns : tie.Need-returns
 returns c =
-    let both = rw (c .before .before .before .before .judge .ensures, c .before .before .before .room-for .ensures) at (c .before .before .first .ensures) in
+    let both = rw (c .before .before .before .before .judge .ensures _ (c .before .before .before .before .before .kept-fields .ensures), c .before .before .before .room-for .ensures) at (c .before .before .first .ensures) in
     (both, kept-if _ _ _ (ap isRefused (sym both) ∙ sym (c .before .is-refused .ensures) ∙ c .if1 .taken))
 
 sub-write-line : tie.Need-sub-write-line
@@ -24,13 +24,14 @@ write-line-requires c κs =
 
 returns-2 : tie.Need-returns-2
 returns-2 c =
-    let both = rw (c .before .before .before .before .before .before .before .before .judge .ensures, c .before .before .before .before .before .before .before .room-for .ensures) at (c .before .before .before .before .before .before .first .ensures) in
+    let both = rw (c .before .before .before .before .before .before .before .before .judge .ensures _ (c .before .before .before .before .before .before .before .before .before .kept-fields .ensures), c .before .before .before .before .before .before .before .room-for .ensures) at (c .before .before .before .before .before .before .first .ensures) in
     (both, c .before .before .write-line .ensures ∙ set-if _ _ _ (ap isRefused (sym both) ∙ sym (c .before .before .before .before .before .is-refused .ensures) ∙ c .before .before .before .before .if1 .left))
 
 pub set-known-spec : {M : Type 1} → statement M
 set-known-spec =
     tie.close
     (tie.spec
+    (λ c κs. search needs)
     (λ c κs. search needs)
     (λ c κs. search needs)
     (λ c κs. search needs)

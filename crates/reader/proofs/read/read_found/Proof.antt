@@ -7,10 +7,10 @@ enum-told : tie.Need-enum-told
 enum-told c = search needs
 
 returns : tie.Need-returns
-returns c = rw (c .before .enum-told .given .1, unknown-line _ _) (c .refused .ensures)
+returns c fs e = rw (c .before .enum-told .given .1, unknown-line _ _) (c .refused .ensures)
 
 returns-2 : tie.Need-returns-2
-returns-2 c = rw (c .before .before .w .given .1) (c .read-known .ensures)
+returns-2 c fs e = rw (c .before .before .w .given .1) (c .read-known .ensures fs e)
 
 pub read-found-spec : {M : Type 1} → statement M
 read-found-spec =

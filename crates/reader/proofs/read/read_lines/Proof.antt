@@ -26,28 +26,37 @@ loop-holds c = (omega arith, refl, refl, scanned-none _ _, c .begin .ensures)
 read-bytes-requires : tie.Need-read-bytes-requires Inv-loop μ-loop
 read-bytes-requires c κs = simp (length-take, length-drop) (omega arith)
 
-write-row-requires : tie.Need-write-row-requires Inv-loop μ-loop
-write-row-requires c κs = let i = c .before .before .before .before .before .loop .inv .1 in let p = c .before .before .before .before .before .before .before .before .before .before .pre .1 .0 in omega arith
-
-note-requires : tie.Need-note-requires Inv-loop μ-loop
-note-requires c κs = let s = c .before .before .before .before .before .before .before .before .before .before .before .before .before .before in let l = c .before .before .before .before .before .before .before .before .before .loop in (l .inv .2 ∙ c .before .before .before .before .before .before .before .before .before .before .before .before .before .before .pre .1 .1, omega arith, rw (l .inv .4) (within (l .rows) (l .at) (l .k) (readTo (s .args .listing .now) (l .k)) (l .inv .3)))
-
 after-requires : tie.Need-after-requires Inv-loop μ-loop
-after-requires c κs = let s = c .before .before .before .before .before .before .before .before .before .before .before .before .before .before .before .before .before in let l = c .before .before .before .before .before .before .before .before .before .before .before .before .loop in (omega arith, rw (l .inv .4) (within (l .rows) (l .at) (l .k) (readTo (s .args .listing .now) (l .k)) (l .inv .3)))
+after-requires c κs =
+    let s = c .before .before .before .before .before .before .before .before .before in
+    let l = c .before .before .before .before .loop in
+    (omega arith, rw (l .inv .4) (within (l .rows) (l .at) (l .k) (readTo (s .args .listing .now) (l .k)) (l .inv .3)))
 
 same-length : tie.Need-same-length Inv-loop μ-loop
-same-length c = rw (c .before .before .before .before .before .before .before .before .before .before .write-row .ensures) (row-long _ _ _ ∙ c .before .before .before .before .before .before .before .before .before .before .before .before .before .before .before .before .loop .inv .1)
+same-length c = c .before .before .before .before .before .before .before .before .loop .inv .1
 
 same-length-2 : tie.Need-same-length-2 Inv-loop μ-loop
-same-length-2 c = c .before .before .before .before .before .before .note .kept .0 ∙ c .before .before .before .before .before .before .before .before .before .before .before .before .before .before .before .before .loop .inv .2
+same-length-2 c = c .before .before .before .before .before .before .before .before .loop .inv .2
 
 returns : tie.Need-returns Inv-loop μ-loop
 returns c =
-    let l = c .before .before .before .before .before .before .before .before .before .before .before .before .before .before .before .before .loop in
-    let t = c .before .before .before .before .before .before .before .before .before .before .before .before .before .before .before .loop-test .taken in
-    let line = line-read _ _ _ (c .before .before .before .before .before .before .before .before .before .before .before .before .before .read-bytes .ensures) in
-    turned-back (c .before .before .before .before .before .before .before .before .before .before .before .before .before .before .before .before .before .before .before .before .before .args .listing .now) _ _ (suc (l .k)) _ _ (omega arith)
-    (rw (progress-next, ← line .sort, ← l .inv .4, ← c .before .before .before .after .ensures) (c .before .p .given .1))
+    let l = c .before .before .before .before .before .before .before .before .loop in
+    let t = c .before .before .before .before .before .before .before .loop-test .taken in
+    let line = line-read _ _ _ (c .before .before .before .before .before .read-bytes .ensures) in
+    turned-back (c .before .before .before .before .before .before .before .before .before .before .before .before .before .args .listing .now) _ _ (suc (l .k)) _ _ (omega arith)
+    (rw (progress-next, ← line .sort, ← l .inv .4, ← c .before .before .before .after .ensures) (c .before .q .given .1))
+
+write-row-requires : tie.Need-write-row-requires Inv-loop μ-loop
+write-row-requires c κs =
+    let i = c .before .before .before .before .before .before .before .before .loop .inv .1 in
+    let p = c .before .before .before .before .before .before .before .before .before .before .before .before .before .pre .1 .0 in
+    omega arith
+
+note-requires : tie.Need-note-requires Inv-loop μ-loop
+note-requires c κs =
+    let s = c .before .before .before .before .before .before .before .before .before .before .before .before .before .before .before .before .before in
+    let l = c .before .before .before .before .before .before .before .before .before .before .before .before .loop in
+    (l .inv .2 ∙ s .pre .1 .1, omega arith, rw (l .inv .4) (within (l .rows) (l .at) (l .k) (readTo (s .args .listing .now) (l .k)) (l .inv .3)))
 
 loop-again : tie.Need-loop-again Inv-loop μ-loop
 loop-again c =
@@ -58,10 +67,10 @@ loop-again c =
     let t = c .before .before .before .before .before .before .before .before .before .before .before .before .before .before .loop-test .taken in
     let line = line-read _ _ _ (c .before .before .before .before .before .before .before .before .before .before .before .before .read-bytes .ensures) in (
       omega arith,
-      rw (c .before .before .before .before .before .before .before .before .before .write-row .ensures) (row-long _ _ _ ∙ l .inv .1),
-      c .before .before .before .before .before .note .kept .0 ∙ l .inv .2,
-      rw (c .before .before .before .before .before .before .before .before .before .write-row .ensures, c .before .before .before .before .before .note .ensures, add-one (l .k), line .sort) (lines-next _ _ _ _ (l .p) _ (l .inv .4) (line .row) (omega arith) (omega arith) (l .inv .2 ∙ a .pre .1 .1) (l .inv .3)),
-      rw (add-one (l .k), progress-next, c .before .before .after .ensures, line .sort, l .inv .4),
+      rw (c .before .before .before .before .before .before .write-row .ensures) (row-long _ _ _ ∙ l .inv .1),
+      c .before .before .note .kept .0 ∙ l .inv .2,
+      rw (c .before .before .before .before .before .before .write-row .ensures, c .before .before .note .ensures, add-one (l .k), line .sort) (lines-next _ _ _ _ (l .p) _ (l .inv .4) (line .row) (omega arith) (omega arith) (l .inv .2 ∙ a .pre .1 .1) (l .inv .3)),
+      rw (add-one (l .k), progress-next, c .before .before .before .before .before .before .before .before .before .before .after .ensures, line .sort, l .inv .4),
     )
 
 same-length-3 : tie.Need-same-length-3 Inv-loop μ-loop
@@ -92,14 +101,14 @@ read-lines-spec =
     (λ c. omega arith)
     (λ c. omega arith)
     read-bytes-requires
-    write-row-requires
-    note-requires
     after-requires
     (λ c. search needs)
     same-length
     same-length-2
     returns
     (λ c. search needs)
+    write-row-requires
+    note-requires
     (λ c. omega arith)
     (λ c. omega arith)
     loop-again
