@@ -1,7 +1,7 @@
 -- Lines of a state: when a line is one of a word, and what it names or sets. Assumes nothing.
 use Prim.Native.Nat.{ℕ, _≤_}
 use native.Mathlib.Omega.{arith}
-use mathlib.Core.Path.{_≡_, refl}
+use mathlib.Core.Path.{_≡_, refl, ap, _∙_}
 use mathlib.Core.Bool.{true, false, _&&_, not}
 use mathlib.Core.List.{List}
 use borrow.Author.Tests.{leb-true, not-true, eq-eqb, ne-eqb}
@@ -15,7 +15,10 @@ use Rattle.model.specs.Words.{textOf as wordText, begins, fieldsOf, allowed, wi
 use Rattle.model.specs.Lines.{wellSpelled, fieldsIn, fieldAt, F1, F4, F5, F6, kindAt, judged, inLimits}
 use Rattle.model.proofs.Tests.{and-right, every-below}
 use Rattle.model.proofs.Judgements.{accepted as not-refused}
+use Rattle.columns.specs.declared.field.KeptFields.{KeptFields}
+use Rattle.columns.specs.Kept.{keptFields}
 use Rattle.lines.proofs.AcceptedFields.{accepted}
+use Rattle.lines.proofs.KeptNumbers.{number-kept}
 use Rattle.saved.specs.declared.states.Target.the-variants.{Point, NoPoint}
 use Rattle.saved.specs.declared.states.Setting.the-variants.{Value, NoValue}
 use Rattle.saved.specs.States.{isLineOf, targetOn, settingOn}
@@ -63,3 +66,11 @@ module _ (l : List ℕ) where
   pub setting-fits : isLineOf SETC l ≡ true → F6 (fieldsIn l) ≤ MAX
   unfolding isLineOf
   setting-fits e = set-limit (fieldsIn l) (accepted 0 SETC (fieldsIn l) (not-refused _ (not-true _ (and-right (wellSpelled l && begins l (wordText SETC)) _ e))) .1)
+
+  -- the numbers that are kept of such a line are those of its fields
+  pub numbers-kept : (w : Word) → isLineOf w l ≡ true → (x : KeptFields) → x ≡ keptFields (fieldsIn l) → (x .first ≡ F1 (fieldsIn l)) × (x .fourth ≡ F4 (fieldsIn l)) × (x .sixth ≡ F6 (fieldsIn l))
+  unfolding isLineOf keptFields
+  numbers-kept w e x k =
+      let s = accepted 0 w (fieldsIn l) (not-refused _ (not-true _ (and-right (wellSpelled l && begins l (wordText w)) _ e))) .0 in
+      let n = number-kept w (fieldsIn l) s in
+      (ap (λ (y : KeptFields). y .first) k ∙ n 0 (omega arith), ap (λ (y : KeptFields). y .fourth) k ∙ n 3 (omega arith), ap (λ (y : KeptFields). y .sixth) k ∙ n 5 (omega arith))

@@ -15,7 +15,7 @@ returns-2 c = not-begun _ _ (sym (c .before .before .before .is-well-spelled .en
 
 returns-3 : tie.Need-returns-3
 returns-3 c =
-    rw (c .is-refused .ensures, c .before .judge .ensures, c .before .before .read-fields .ensures)
+    rw (c .is-refused .ensures, c .before .judge .ensures _ (c .before .before .read-fields .ensures))
     (begun _ _ (sym (c .before .before .before .before .before .before .is-well-spelled .ensures) ∙ not-false _ (c .before .before .before .before .before .if1 .left)) (sym (c .before .before .before .before .begins-with .ensures) ∙ not-false _ (c .before .before .before .if2 .left)))
 
 pub is-line-of-spec : {M : Type 1} → statement M
