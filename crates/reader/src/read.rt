@@ -97,14 +97,14 @@ fn read_found(place: usize, w: FoundWord, k: KeptFields) -> Read
     }
 }
 
-// A line with its number: what it holds, or what turns it back.
+// A line with its number: what it holds, or what turns it back. The word is found last, right before its row of the table is chosen.
 fn read_bytes(place: usize, l: &[u8]) -> Read
     requires { ⌜ length (now l) ≡ lineBytes ⌝ }
     ensures { λ x. ⌜ ReadAs (readLine place (now (l .entry))) x ⌝ }
 {
     if is_well_spelled(l) {
-        let w = find_word(l);
         let k = read_fields(l);
+        let w = find_word(l);
         return read_found(place, w, k);
     }
     refused(Refusal::LineBytes { line: place })
@@ -130,8 +130,8 @@ pub(crate) fn read_lines(listing: &[u8], n: usize, rows: &mut [u64], at: &mut [u
         if let Progress::Turned(r) = q {
             return Progress::Turned(r);
         }
-        write_row(rows, k, row);
         note(at, p, k, sort);
+        write_row(rows, k, row);
         p = q;
         k += 1;
     }

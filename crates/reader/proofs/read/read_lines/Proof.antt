@@ -46,17 +46,17 @@ returns c =
     turned-back (c .before .before .before .before .before .before .before .before .before .before .before .before .before .args .listing .now) _ _ (suc (l .k)) _ _ (omega arith)
     (rw (progress-next, ← line .sort, ← l .inv .4, ← c .before .before .before .after .ensures) (c .before .q .given .1))
 
-write-row-requires : tie.Need-write-row-requires Inv-loop μ-loop
-write-row-requires c κs =
-    let i = c .before .before .before .before .before .before .before .before .loop .inv .1 in
-    let p = c .before .before .before .before .before .before .before .before .before .before .before .before .before .pre .1 .0 in
-    omega arith
-
 note-requires : tie.Need-note-requires Inv-loop μ-loop
 note-requires c κs =
-    let s = c .before .before .before .before .before .before .before .before .before .before .before .before .before .before .before .before .before in
-    let l = c .before .before .before .before .before .before .before .before .before .before .before .before .loop in
+    let s = c .before .before .before .before .before .before .before .before .before .before .before .before .before in
+    let l = c .before .before .before .before .before .before .before .before .loop in
     (l .inv .2 ∙ s .pre .1 .1, omega arith, rw (l .inv .4) (within (l .rows) (l .at) (l .k) (readTo (s .args .listing .now) (l .k)) (l .inv .3)))
+
+write-row-requires : tie.Need-write-row-requires Inv-loop μ-loop
+write-row-requires c κs =
+    let i = c .before .before .before .before .before .before .before .before .before .before .before .before .loop .inv .1 in
+    let p = c .before .before .before .before .before .before .before .before .before .before .before .before .before .before .before .before .before .pre .1 .0 in
+    omega arith
 
 loop-again : tie.Need-loop-again Inv-loop μ-loop
 loop-again c =
@@ -67,9 +67,9 @@ loop-again c =
     let t = c .before .before .before .before .before .before .before .before .before .before .before .before .before .before .loop-test .taken in
     let line = line-read _ _ _ (c .before .before .before .before .before .before .before .before .before .before .before .before .read-bytes .ensures) in (
       omega arith,
-      rw (c .before .before .before .before .before .before .write-row .ensures) (row-long _ _ _ ∙ l .inv .1),
-      c .before .before .note .kept .0 ∙ l .inv .2,
-      rw (c .before .before .before .before .before .before .write-row .ensures, c .before .before .note .ensures, add-one (l .k), line .sort) (lines-next _ _ _ _ (l .p) _ (l .inv .4) (line .row) (omega arith) (omega arith) (l .inv .2 ∙ a .pre .1 .1) (l .inv .3)),
+      rw (c .before .before .write-row .ensures) (row-long _ _ _ ∙ l .inv .1),
+      c .before .before .before .before .before .before .note .kept .0 ∙ l .inv .2,
+      rw (c .before .before .write-row .ensures, c .before .before .before .before .before .before .note .ensures, add-one (l .k), line .sort) (lines-next _ _ _ _ (l .p) _ (l .inv .4) (line .row) (omega arith) (omega arith) (l .inv .2 ∙ a .pre .1 .1) (l .inv .3)),
       rw (add-one (l .k), progress-next, c .before .before .before .before .before .before .before .before .before .before .after .ensures, line .sort, l .inv .4),
     )
 
@@ -107,8 +107,8 @@ read-lines-spec =
     same-length-2
     returns
     (λ c. search needs)
-    write-row-requires
     note-requires
+    write-row-requires
     (λ c. omega arith)
     (λ c. omega arith)
     loop-again
