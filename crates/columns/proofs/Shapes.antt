@@ -127,20 +127,6 @@ module _ (s : List ℕ) (at : ℕ) where
       let (e4, z4) = space-more (i + 1 + 1 + 1) e3 z3 (rw (← p3) (eqb-true _ _ d)) in
       (rw all at e4, rw all at z4)
 
-  -- four columns of spaces
-  pub blank-four : (n : ℕ) → n ≡ 4 → (eqb (getD s at 0) space && eqb (getD s (at + 1) 0) space && eqb (getD s (at + 2) 0) space && eqb (getD s (at + 3) 0) space) ≡ true → fieldOf s at n ≡ Blank
-  unfolding shapeOf digitsOf
-  blank-four n q e =
-      let z : at + 0 ≡ at = omega arith in
-      let (abc, d) = and-both-of _ _ e in
-      let (ab, c) = and-both-of _ _ abc in
-      let (a, b) = and-both-of _ _ ab in
-      let (e1, z1) = space-more 0 refl refl (rw z (eqb-true _ _ a)) in
-      let (e2, z2) = space-more 1 e1 z1 (eqb-true _ _ b) in
-      let (e3, z3) = space-more 2 e2 z2 (eqb-true _ _ c) in
-      let (e4, z4) = space-more 3 e3 z3 (eqb-true _ _ d) in
-      blank 4 n (omega arith) e4
-
   -- a minus after spaces
   pub minus-first : (i : ℕ) → shapeOf s at i ≡ Spaces → digitsOf s at i ≡ 0 → byteAt i ≡ 45 → (shapeOf s at (i + 1) ≡ Sign) × (digitsOf s at (i + 1) ≡ 0)
   unfolding nextShape digitOf

@@ -1,7 +1,7 @@
 // A line of 40 bytes: its spelling and its six fields.
 use columns::field::KeptFields;
-use columns::reading::read_long;
-use columns::reading::read_short;
+use columns::long::read_long;
+use columns::short::read_short;
 ghost use mathlib.Core.Path.{_≡_};
 ghost use Prim.Native.Nat.{ℕ};
 ghost use lib.ListN.{length, getD};

@@ -6,8 +6,8 @@ use Rattle.model.specs.Text.{shapeOf, digitsOf}
 use Rattle.columns.specs.Kept.{keptPlain}
 use Rattle.columns.proofs.Shapes.{blank}
 use borrow.Author.Needs.{needs}
-use Rattle.columns.proofs.reading.read_short.Statement.{statement}
-use Rattle.columns.proofs.reading.read_short.Tie as tie
+use Rattle.columns.proofs.short.read_short.Statement.{statement}
+use Rattle.columns.proofs.short.read_short.Tie as tie
 
 four-more-requires : tie.Need-four-more-requires
 unfolding shapeOf digitsOf

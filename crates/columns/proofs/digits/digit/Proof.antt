@@ -2,8 +2,8 @@
 use native.Mathlib.Omega.{arith}
 use Rattle.model.specs.Text.{digitOf}
 use Rattle.model.proofs.Digits.{digit-byte}
-use Rattle.columns.proofs.gathering.digit.Statement.{statement}
-use Rattle.columns.proofs.gathering.digit.Tie as tie
+use Rattle.columns.proofs.digits.digit.Statement.{statement}
+use Rattle.columns.proofs.digits.digit.Tie as tie
 
 sub-result : tie.Need-sub-result
 sub-result c = digit-byte (c .args .b) (c .pre) .0

@@ -6,8 +6,8 @@ use Rattle.columns.specs.Kept.{keptPlain}
 use Rattle.columns.proofs.KeptShapes.{not-plain}
 use Rattle.columns.proofs.Shapes.{leading-digit, zero-last, zero-leads, digit-first, number-first}
 use borrow.Author.Needs.{needs}
-use Rattle.columns.proofs.reading.read_plain.Statement.{statement}
-use Rattle.columns.proofs.reading.read_plain.Tie as tie
+use Rattle.columns.proofs.short.read_plain.Statement.{statement}
+use Rattle.columns.proofs.short.read_plain.Tie as tie
 
 digit-requires : tie.Need-digit-requires
 digit-requires c κs = leading-digit _ (sym (c .before .is-leading .ensures) ∙ c .if1 .taken)

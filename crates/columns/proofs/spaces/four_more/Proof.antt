@@ -2,8 +2,8 @@
 use mathlib.Core.Path.{sym, _∙_}
 use Rattle.columns.proofs.Shapes.{four-spaces}
 use borrow.Author.Needs.{needs}
-use Rattle.columns.proofs.reading.four_more.Statement.{statement}
-use Rattle.columns.proofs.reading.four_more.Tie as tie
+use Rattle.columns.proofs.spaces.four_more.Statement.{statement}
+use Rattle.columns.proofs.spaces.four_more.Tie as tie
 
 returns : tie.Need-returns
 returns c = λ h. four-spaces _ _ (c .before .before .before .before .before .before .args .i) (c .before .before .before .before .before .before .pre .1) (c .before .before .before .before .before .before .pre .2) (sym (c .same .ensures) ∙ h)

@@ -7,8 +7,8 @@ use borrow.Author.Needs.{needs}
 use Rattle.model.specs.declared.text.Shape.the-variants.{Spaces}
 use Rattle.model.specs.Text.{shapeOf, digitsOf}
 use Rattle.columns.proofs.Shapes.{space-more}
-use Rattle.columns.proofs.reading.skip_spaces.Statement.{statement}
-use Rattle.columns.proofs.reading.skip_spaces.Tie as tie
+use Rattle.columns.proofs.spaces.skip_spaces.Statement.{statement}
+use Rattle.columns.proofs.spaces.skip_spaces.Tie as tie
 
 abbrev Inv-loop : tie.InvT-loop
 Inv-loop l at n i₀ i = (i ≤ n) × (shapeOf l at i ≡ Spaces) × (digitsOf l at i ≡ 0)

@@ -9,8 +9,8 @@ use Rattle.model.specs.Text.{shapeOf, digitsOf}
 use Rattle.model.proofs.Digits.{digit-below, digits-fit}
 use Rattle.columns.specs.Kept.{keptPlain}
 use Rattle.columns.proofs.Shapes.{digit-more, digits-broken, digits-last, number-more}
-use Rattle.columns.proofs.gathering.gather_short.Statement.{statement}
-use Rattle.columns.proofs.gathering.gather_short.Tie as tie
+use Rattle.columns.proofs.short.gather_short.Statement.{statement}
+use Rattle.columns.proofs.short.gather_short.Tie as tie
 
 abbrev Inv-loop : tie.InvT-loop
 Inv-loop l at i n first v₀ j₀ v j = (j ≤ n) × (shapeOf l at j ≡ Digits) × (v ≡ digitsOf l at j)

@@ -3,8 +3,8 @@ use native.Mathlib.Omega.{arith}
 use mathlib.Core.Path.{refl}
 use borrow.Author.Tests.{not-false}
 use Rattle.model.specs.Text.{shapeOf, digitsOf}
-use Rattle.columns.proofs.reading.skip_fours.Statement.{statement}
-use Rattle.columns.proofs.reading.skip_fours.Tie as tie
+use Rattle.columns.proofs.spaces.skip_fours.Statement.{statement}
+use Rattle.columns.proofs.spaces.skip_fours.Tie as tie
 
 returns : tie.Need-returns
 unfolding shapeOf digitsOf

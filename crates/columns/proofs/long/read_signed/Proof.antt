@@ -5,8 +5,8 @@ use mathlib.Core.Path.{sym, ap, _∙_}
 use Rattle.columns.specs.Kept.{keptSigned}
 use Rattle.columns.proofs.Shapes.{leading-digit, minus-first, zero-last, zero-leads, digit-first, other-first, number-first}
 use borrow.Author.Needs.{needs}
-use Rattle.columns.proofs.reading.read_signed.Statement.{statement}
-use Rattle.columns.proofs.reading.read_signed.Tie as tie
+use Rattle.columns.proofs.long.read_signed.Statement.{statement}
+use Rattle.columns.proofs.long.read_signed.Tie as tie
 
 digit-requires : tie.Need-digit-requires
 digit-requires c κs = leading-digit _ (sym (c .before .is-leading .ensures) ∙ c .if1 .taken)

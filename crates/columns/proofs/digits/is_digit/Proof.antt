@@ -1,8 +1,8 @@
 -- The test is the definition. Assumes nothing.
 use mathlib.Core.Path.{refl}
 use Rattle.model.specs.Text.{isDigit}
-use Rattle.columns.proofs.gathering.is_digit.Statement.{statement}
-use Rattle.columns.proofs.gathering.is_digit.Tie as tie
+use Rattle.columns.proofs.digits.is_digit.Statement.{statement}
+use Rattle.columns.proofs.digits.is_digit.Tie as tie
 
 returns : tie.Need-returns
 unfolding isDigit
