@@ -33,10 +33,12 @@ ghost use Rattle.lines.specs.Asked.{rowJudged};
 fn judge_row(place: usize, shapes: u32, r: AskedRow, differ: bool) -> Judgement
     ensures { λ j. ⌜ j ≡ rowJudged place shapes r differ ⌝ }
 {
-    if shapes != r.shapes {
+    let due = r.shapes;
+    let allowed = r.allowed;
+    if shapes != due {
         return Judgement::Refused(Refusal::FieldShape { line: place });
     }
-    if !r.allowed {
+    if !allowed {
         return Judgement::Refused(Refusal::NumberLimits { line: place });
     }
     if !differ {
