@@ -1,6 +1,5 @@
 -- What is kept of a field by the shape of its columns. Assumes nothing.
-use Prim.Native.Nat.{ℕ, zero, suc, _+_, _*_, _/_, _%_, _^_, _≤_, _<_}
-use native.Mathlib.Nat.{pow-suc, pow-le-pow-right, lt-of-lt-of-le}
+use Prim.Native.Nat.{ℕ, zero, suc, _+_, _*_, _/_, _%_, _≤_, _<_}
 use native.Mathlib.Omega.{arith}
 use native.Mathlib.Decide.{ℕ-discrete}
 use mathlib.Core.Path.{_≡_, refl, ap, _∙_}
@@ -36,14 +35,6 @@ shape-small fs j = go (eqb j 5)
     go : (b : Bool) → cond b (keptSigned (fieldAt fs j)) (keptPlain (fieldAt fs j)) .shape < 4
     go true = signed-small (fieldAt fs j)
     go false = plain-small (fieldAt fs j)
-
-shapes-below : (fs : List Field) (n : ℕ) → shapesTo fs n < 4 ^ n
-unfolding shapesTo
-shapes-below fs zero = omega arith
-shapes-below fs (suc n) = rw pow-suc (omega (arith, shapes-below fs n, shape-small fs n))
-
-pub shapes-small : (fs : List Field) (n : ℕ) → n ≤ 5 → shapesTo fs n < 1024
-shapes-small fs n h = lt-of-lt-of-le (shapes-below fs n) (pow-le-pow-right (omega arith) h)
 
 -- a number after a minus or not
 pub signed-number : (t : Bool) (v : ℕ) → sideBySide (cond t NEGATIVE NUMBER) v ≡ keptSigned (cond t (Negative v) (Number v))

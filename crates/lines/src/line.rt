@@ -1,5 +1,6 @@
 // A line of 40 bytes: its spelling and its six fields.
 use columns::field::KeptFields;
+use columns::field::packed;
 use columns::long::read_long;
 use columns::short::read_short;
 ghost use mathlib.Core.Path.{_≡_};
@@ -38,28 +39,24 @@ pub fn is_well_spelled(l: &[u8]) -> bool
     all_printable(l) & (l[39] == b'\n')
 }
 
-// What is kept of the six fields of a line. F1 to F5 are read in a loop, so that one reader of them is compiled into it.
+// What is kept of the six fields of a line.
 pub fn read_fields(l: &[u8]) -> KeptFields
     requires { ⌜ length (now l) ≡ 40 ⌝ }
     ensures { λ r. ⌜ r ≡ keptFields (fieldsIn (now (l .entry))) ⌝ }
 {
-    let mut numbers = [0u64; 5];
-    let mut shapes: u32 = 0;
-    let mut j = 0;
-    while j < 5 {
-        let f = read_short(l, 4 + j * 4);
-        numbers[j] = f.number;
-        shapes = shapes * 4 + f.shape as u32;
-        j += 1;
-    }
-    let last = read_long(l, 24);
+    let a = read_short(l, 4);
+    let b = read_short(l, 8);
+    let c = read_short(l, 12);
+    let d = read_short(l, 16);
+    let e = read_short(l, 20);
+    let f = read_long(l, 24);
     KeptFields {
-        shapes: shapes * 4 + last.shape as u32,
-        first: numbers[0],
-        second: numbers[1],
-        third: numbers[2],
-        fourth: numbers[3],
-        fifth: numbers[4],
-        sixth: last.number,
+        shapes: packed(a.shape, b.shape, c.shape, d.shape, e.shape, f.shape),
+        first: a.number,
+        second: b.number,
+        third: c.number,
+        fourth: d.number,
+        fifth: e.number,
+        sixth: f.number,
     }
 }
