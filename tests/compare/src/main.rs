@@ -10,7 +10,7 @@ use std::fs;
 use std::path::{Path, PathBuf};
 use std::process::{Command, ExitCode};
 use trials::claim_lines::{compare_parts, listings, part_of_reference, Part, PartTally};
-use trials::{all, compare, of_reference, Count, Tally, Verdict};
+use trials::{all, compare, of_columns, of_reference, Count, Family, Tally, Verdict};
 
 fn main() -> ExitCode {
     let mut count = Count::default();
@@ -32,18 +32,25 @@ fn of_archive(listing: &[u8]) -> Verdict {
 }
 
 fn compare_families(count: &mut Count) {
-    let mut whole = Tally::default();
     println!("{}", Tally::heading());
-    for family in all() {
-        let outcome = compare(&family, &of_reference, &of_archive).map(|tally| {
+    let whole = compare_each(&all(), count);
+    println!("{} all {} listings", whole.row(), whole.total());
+    let rare = whole.rare();
+    count.test(if rare.is_empty() { Ok(()) } else { Err(format!("rarer than 1 in 1,000: {rare:?}")) });
+    let whole = compare_each(&of_columns(), count);
+    println!("{} all {} listings of one line", whole.row(), whole.total());
+}
+
+fn compare_each(families: &[Family], count: &mut Count) -> Tally {
+    let mut whole = Tally::default();
+    for family in families {
+        let outcome = compare(family, &of_reference, &of_archive).map(|tally| {
             println!("{} {}", tally.row(), family.name);
             whole.add(&tally);
         });
         count.test(outcome.map_err(|difference| format!("first is the reference, second the archive: {difference}")));
     }
-    println!("{} all {} listings", whole.row(), whole.total());
-    let rare = whole.rare();
-    count.test(if rare.is_empty() { Ok(()) } else { Err(format!("rarer than 1 in 1,000: {rare:?}")) });
+    whole
 }
 
 /// The archive's answer; what its wrapper cuts out of the listing is the part that it names.

@@ -14,5 +14,5 @@ pub mod tally;
 
 pub use comparison::{compare, of_reference, Difference, Verdict};
 pub use count::Count;
-pub use families::{all, Family};
+pub use families::{all, of_columns, Family};
 pub use tally::Tally;

@@ -1,13 +1,15 @@
 //! A checker that is wrong on purpose is found out, and the listing that shows it is small.
 
+mod found;
 mod wrong;
 
+use found::found;
 use reference::{
     check, edges, goal_follows, read, Answer, Arithmetic, Claim, Edge, Instruction, Known, Operand, Range, Stripe,
     Whole, MAX,
 };
 use trials::all;
-use wrong::{found, names, range_of, weakened, with_rule};
+use wrong::{names, range_of, weakened, with_rule};
 
 fn claim_on_line(listing: &[u8], line: u64) -> Claim {
     let claims = read(listing).expect("it was read before").points.into_iter().flat_map(|point| point.claims);

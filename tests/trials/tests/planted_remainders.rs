@@ -1,8 +1,10 @@
 //! A checker that is wrong on purpose about divisions with remainder is found out, and the listing that shows it is small.
 
+mod found;
 mod mended;
 mod wrong;
 
+use found::found;
 use lines::LINE;
 use mended::mended;
 use reference::refusals::{
@@ -12,7 +14,7 @@ use reference::{check, Answer, Instruction, Known, Operand, Range, Whole};
 use std::ops::RangeInclusive;
 use trials::shrink::number;
 use trials::{all, Difference};
-use wrong::{found, names, range_of, weakened, with_rule};
+use wrong::{names, range_of, weakened, with_rule};
 
 const VALUES: &str = "remainders of one value";
 const RANGES: &str = "remainders of ranges";

@@ -1,6 +1,7 @@
 //! The families of listings. Each is made of batches, and each batch comes from a seed of its own, so that any
 //! listing can be made again from the family and the batch.
 
+mod columns;
 pub(crate) mod damage;
 pub(crate) mod limits;
 pub(crate) mod nudges;
@@ -36,6 +37,15 @@ impl Family {
         self.batches = self.batches.div_ceil(divisor);
         self
     }
+}
+
+/// Listings of one line, each of them made once: every content of a field's columns. Their answers are few, so that they
+/// are not counted among the others.
+pub fn of_columns() -> Vec<Family> {
+    vec![
+        Family::new("four columns of F1 to F5, every content over six bytes", 31, 1, columns::short),
+        Family::new("fifteen columns of F6, every byte of six in every column", 32, 1, columns::long),
+    ]
 }
 
 /// Every family of the comparison; together more than 400,000 listings.

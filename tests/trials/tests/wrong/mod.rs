@@ -1,21 +1,8 @@
-//! Checkers that are the reference but for one rule, and the first listing on which they differ from it.
+//! Checkers that are the reference but for one rule.
 
 use reference::{
     check, edges, goal_follows, read, Answer, Claim, Edge, Instruction, Known, Operand, Range, Stripe, LINKS,
 };
-use trials::{all, compare, of_reference, Difference, Verdict};
-
-/// The first difference between the reference and a wrong checker, in the family whose name has this part.
-pub fn found(part: &str, wrong: &dyn Fn(&[u8]) -> Answer) -> Box<Difference> {
-    let wrong = |listing: &[u8]| {
-        let answer = wrong(listing);
-        Verdict { answer, line: reference::printed(&answer) }
-    };
-    let family = all().into_iter().find(|family| family.name.contains(part)).expect("the family exists");
-    let difference = compare(&family, &of_reference, &wrong).expect_err("the planted difference is found");
-    println!("{difference}");
-    difference
-}
 
 /// The reference's answer, with PASS where the point that fails would pass by a weaker rule.
 pub fn weakened(listing: &[u8], number: u64, excused: &dyn Fn(usize, &Instruction, &Known, u64) -> bool) -> Answer {
