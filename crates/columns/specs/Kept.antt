@@ -9,16 +9,19 @@ use Rattle.model.specs.Lines.{fieldAt}
 use Rattle.columns.specs.declared.field.KeptField.{KeptField}
 use Rattle.columns.specs.declared.field.KeptFields.{KeptFields}
 
--- the shapes as numbers
+-- the shapes as numbers: nothing but spaces
 abbrev pub BLANK : ℕ
 BLANK = 0
 
+-- a number without a minus
 abbrev pub NUMBER : ℕ
 NUMBER = 1
 
+-- a number after a minus
 abbrev pub NEGATIVE : ℕ
 NEGATIVE = 2
 
+-- anything else
 abbrev pub MISSHAPEN : ℕ
 MISSHAPEN = 3
 

@@ -1,4 +1,4 @@
-// F6: fifteen columns, where a minus may stand, gathered in 64 bits. Fifteen digits give a number below 10 to the power 15, so that no overflow is tested.
+// F6: fifteen columns, where a minus may stand, gathered in 64 bits. What fifteen columns give is less than 10^15, so no overflow is tested.
 use crate::digits::digit;
 use crate::digits::is_digit;
 use crate::digits::is_leading;

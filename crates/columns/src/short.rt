@@ -1,4 +1,4 @@
-// F1 to F5: four columns, where no word asks for a minus, gathered in 16 bits. Four digits give a number below 10 to the power 4, so that no overflow is tested.
+// F1 to F5: four columns, where no word asks for a minus, gathered in 16 bits. What four columns give is less than 10^4, so no overflow is tested.
 use crate::digits::digit;
 use crate::digits::is_digit;
 use crate::digits::is_leading;

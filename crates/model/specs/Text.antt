@@ -56,7 +56,7 @@ unfolding digitOf
 digitsOf s at zero = 0
 digitsOf s at (suc n) = digitsOf s at n * 10 + digitOf (getD s (at + n) 0)
 
--- as a promise: n columns of digits hold a number of n places, below 10 to the power n
+-- as a promise: what n columns give is less than 10 ^ n, however many they are
 abbrev pub DigitsBelow : Type 0
 DigitsBelow = (s : List ℕ) (at n : ℕ) → digitsOf s at n < 10 ^ n
 
