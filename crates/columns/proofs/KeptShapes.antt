@@ -1,8 +1,8 @@
 -- What is kept of a field by the shape of its columns. Assumes nothing.
-use Prim.Native.Nat.{ℕ, zero, suc, _+_, _*_, _/_, _%_, _≤_, _<_}
+use Prim.Native.Nat.{ℕ, zero, suc, _+_, _/_, _%_, _≤_, _<_}
 use native.Mathlib.Omega.{arith}
 use native.Mathlib.Decide.{ℕ-discrete}
-use mathlib.Core.Path.{_≡_, refl, ap, _∙_}
+use mathlib.Core.Path.{_≡_, refl, ap}
 use mathlib.Core.Bool.{Bool, true, false, _&&_, cond, false≢true}
 use mathlib.Core.List.{List}
 use lib.ListN.{getD}
@@ -14,7 +14,7 @@ use Rattle.model.specs.declared.text.Field.the-variants.{Blank, Number, Negativ
 use Rattle.model.specs.Text.{space, isDigit, nextShape, shapeOf, digitsOf, fieldFrom, fieldOf}
 use Rattle.model.specs.Lines.{fieldAt}
 use Rattle.columns.specs.Kept.{NUMBER, NEGATIVE, MISSHAPEN, sideBySide, keptSigned, keptPlain, keptAt, shapesTo, packed}
-use Rattle.columns.proofs.Shapes.{shape-step, minus-first, other-first}
+use Rattle.columns.proofs.Shapes.{minus-first, other-first}
 
 plain-small : (f : Field) → keptPlain f .shape < 4
 plain-small Blank = omega arith

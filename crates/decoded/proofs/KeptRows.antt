@@ -1,7 +1,7 @@
 -- The row of what is kept of fields that are in shape is the row of the fields. Assumes nothing.
 use Prim.Native.Nat.{ℕ, _/_, _%_}
 use native.Mathlib.Omega.{arith}
-use mathlib.Core.Path.{_≡_, refl, ap, _∙_}
+use mathlib.Core.Path.{_≡_, refl}
 use mathlib.Core.Bool.{true, cond, false≢true}
 use mathlib.Core.List.{List}
 use lib.Dec.{eqb}
@@ -15,7 +15,7 @@ use Rattle.model.specs.Words.{shaped}
 use Rattle.model.specs.Lines.{fieldAt, kindAt, inShape, variableOrBlank, plusIn, minusIn}
 use Rattle.model.proofs.Tests.{every-below}
 use Rattle.columns.specs.declared.field.KeptFields.{KeptFields}
-use Rattle.columns.specs.Kept.{BLANK, NEGATIVE, keptPlain, keptSigned, keptAt, keptFields}
+use Rattle.columns.specs.Kept.{BLANK, NEGATIVE, keptPlain, keptSigned, keptFields}
 use Rattle.columns.proofs.KeptShapes.{fourth-of-six, sixth-of-six}
 use Rattle.lines.proofs.KeptNumbers.{unsigned, unsigned-kinds, field-shaped, number-kept}
 use Rattle.decoded.specs.Rows.{numbers}

@@ -1,5 +1,5 @@
 -- A word with its fields is judged by what its row asks of them. Assumes nothing.
-use Prim.Native.Nat.{ℕ, zero, suc, _+_, _*_, _/_, _%_, _≤_, _<_}
+use Prim.Native.Nat.{ℕ, zero, suc, _+_, _*_, _/_, _%_, _<_}
 use native.Mathlib.Omega.{arith}
 use mathlib.Core.Path.{_≡_, refl, sym, ap, subst, _∙_}
 use mathlib.Core.Bool.{Bool, true, false, not, _&&_, _||_, cond, false≢true}
@@ -15,9 +15,7 @@ use Rattle.model.specs.declared.text.Kind.the-variants.{Empty, Plain, Optional,
 use Rattle.model.specs.declared.text.Word.{Word}
 use Rattle.model.specs.declared.text.Word.the-variants.{Divm}
 use Rattle.model.specs.declared.text.FoundWord.the-variants.{Known}
-use Rattle.model.specs.declared.answers.Refusal.the-variants.{FieldShape, NumberLimits, SameRegister}
 use Rattle.model.specs.declared.answers.Judgement.{Judgement}
-use Rattle.model.specs.declared.answers.Judgement.the-variants.{Accepted, Refused}
 use Rattle.model.specs.Lists.{everyBelow}
 use Rattle.model.specs.Text.{valueIn}
 use Rattle.model.specs.Words.{fieldsOf, shaped, allowed, within}

@@ -1,6 +1,6 @@
 -- What is read of the columns of each field is what is kept of the fields of the line. Assumes nothing.
 use Prim.Native.Nat.{ℕ}
-use mathlib.Core.Path.{_≡_, refl}
+use mathlib.Core.Path.{_≡_}
 use mathlib.Core.List.{List}
 use Rattle.model.specs.Text.{fieldOf}
 use Rattle.model.specs.Lines.{widthOf, fieldsIn}

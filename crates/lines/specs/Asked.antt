@@ -1,19 +1,15 @@
 -- What a row of the table of the words asks of a field: its shape, and whether its number is allowed. A word with its fields is judged by what its row asks of all six.
 use Prim.Native.Nat.{ℕ}
 use mathlib.Core.Bool.{Bool, true, not, _&&_, cond}
-use mathlib.Core.List.{List}
 use lib.Dec.{eqb}
-use Rattle.model.specs.declared.text.Field.{Field}
 use Rattle.model.specs.declared.text.Kind.{Kind}
 use Rattle.model.specs.declared.text.Kind.the-variants.{Empty, Plain, Optional, Signed}
-use Rattle.model.specs.declared.text.Word.{Word}
 use Rattle.model.specs.declared.answers.Refusal.the-variants.{FieldShape, NumberLimits, SameRegister}
 use Rattle.model.specs.declared.answers.Judgement.{Judgement}
 use Rattle.model.specs.declared.answers.Judgement.the-variants.{Accepted, Refused}
-use Rattle.model.specs.Words.{fieldsOf, within}
-use Rattle.model.specs.Lines.{kindAt}
+use Rattle.model.specs.Words.{within}
 use Rattle.columns.specs.declared.field.KeptField.{KeptField}
-use Rattle.columns.specs.Kept.{BLANK, NUMBER, NEGATIVE, keptAt, packed}
+use Rattle.columns.specs.Kept.{BLANK, NUMBER, NEGATIVE, packed}
 use Rattle.lines.specs.declared.asked.Asked.{Asked}
 use Rattle.lines.specs.declared.asked.AskedRow.{AskedRow}
 

@@ -1,5 +1,4 @@
 -- Only a digit's byte is reduced, so the difference does not wrap. Assumes nothing.
-use native.Mathlib.Omega.{arith}
 use Rattle.model.specs.Text.{digitOf}
 use Rattle.model.proofs.Digits.{digit-byte}
 use Rattle.columns.proofs.digits.digit.Statement.{statement}

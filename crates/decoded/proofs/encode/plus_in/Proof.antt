@@ -1,6 +1,5 @@
 -- The shape decides. Assumes nothing.
 use borrow.Author.Tests.{eq-eqb, ne-eqb}
-use borrow.Author.Needs.{needs}
 use Rattle.decoded.proofs.encode.plus_in.Statement.{statement}
 use Rattle.decoded.proofs.encode.plus_in.Tie as tie
 

@@ -1,6 +1,5 @@
 -- The shape decides. Assumes nothing.
 use borrow.Author.Tests.{eq-eqb, ne-eqb}
-use borrow.Author.Needs.{needs}
 use Rattle.decoded.proofs.encode.variable_or_blank.Statement.{statement}
 use Rattle.decoded.proofs.encode.variable_or_blank.Tie as tie
 

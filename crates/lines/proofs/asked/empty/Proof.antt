@@ -1,6 +1,5 @@
 -- A blank is due, and has no limit. Assumes nothing.
 use mathlib.Core.Path.{refl}
-use borrow.Author.Needs.{needs}
 use Rattle.lines.specs.Asked.{askedOf}
 use Rattle.lines.proofs.asked.empty.Statement.{statement}
 use Rattle.lines.proofs.asked.empty.Tie as tie

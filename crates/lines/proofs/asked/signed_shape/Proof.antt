@@ -1,5 +1,4 @@
 -- Both tests together decide. Assumes nothing.
-use borrow.Author.Needs.{needs}
 use Rattle.lines.proofs.asked.signed_shape.Statement.{statement}
 use Rattle.lines.proofs.asked.signed_shape.Tie as tie
 

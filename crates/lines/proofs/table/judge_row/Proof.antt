@@ -2,7 +2,6 @@
 use mathlib.Core.Path.{_≡_}
 use mathlib.Core.Bool.{true, false}
 use borrow.Author.Tests.{eq-eqb, ne-eqb, not-true, not-false}
-use borrow.Author.Needs.{needs}
 use Rattle.lines.proofs.table.judge_row.Statement.{statement}
 use Rattle.lines.proofs.table.judge_row.Tie as tie
 
