@@ -2,19 +2,21 @@
 use Prim.Native.Nat.{ℕ, zero, suc, _+_, _/_, _%_, _≤_, _<_}
 use native.Mathlib.Omega.{arith}
 use native.Mathlib.Decide.{ℕ-discrete}
-use mathlib.Core.Path.{_≡_, refl, ap}
+use mathlib.Core.Path.{_≡_, refl, sym, ap, _∙_}
 use mathlib.Core.Bool.{Bool, true, false, _&&_, cond, false≢true}
 use mathlib.Core.List.{List}
 use lib.ListN.{getD}
 use lib.Dec.{leb, eqb}
+use borrow.Author.Tests.{eqb-true, eqb-false}
 use Rattle.model.specs.declared.text.Shape.{Shape}
 use Rattle.model.specs.declared.text.Shape.the-variants.{Spaces, Zero, Digits, Sign, Signed, Wrong}
 use Rattle.model.specs.declared.text.Field.{Field}
 use Rattle.model.specs.declared.text.Field.the-variants.{Blank, Number, Negative, Misshapen}
 use Rattle.model.specs.Text.{space, isDigit, nextShape, shapeOf, digitsOf, fieldFrom, fieldOf}
 use Rattle.model.specs.Lines.{fieldAt}
+use Rattle.columns.specs.declared.field.KeptField.{KeptField}
 use Rattle.columns.specs.Kept.{NUMBER, NEGATIVE, MISSHAPEN, sideBySide, keptSigned, keptPlain, keptAt, shapesTo, packed}
-use Rattle.columns.proofs.Shapes.{minus-first, other-first}
+use Rattle.columns.proofs.Shapes.{minus-first, other-first, zero-last, zero-leads}
 
 plain-small : (f : Field) → keptPlain f .shape < 4
 plain-small Blank = omega arith
@@ -107,3 +109,13 @@ module _ (s : List ℕ) (at : ℕ) where
       go : Dec (getD s (at + i) 0 ≡ 45) → keptPlain (fieldOf s at n) ≡ sideBySide MISSHAPEN 0
       go (yes m) = minus-kept (shapeOf s at n) (digitsOf s at n) (minus-stays (i + 1) n (omega arith) (ap withMinus (minus-first s at i e z m .0)))
       go (no m) = ap keptPlain (other-first s at i n h e p d m o)
+
+  -- a 0 after spaces, for any way to keep a field that keeps these two so
+  pub zero-kept : (kept : Field → KeptField) → kept (Number 0) ≡ sideBySide NUMBER 0 → kept Misshapen ≡ sideBySide MISSHAPEN 0
+      → (i n : ℕ) → i < n → shapeOf s at i ≡ Spaces → digitsOf s at i ≡ 0 → getD s (at + i) 0 ≡ 48
+      → cond (eqb (i + 1) n) (sideBySide NUMBER 0) (sideBySide MISSHAPEN 0) ≡ kept (fieldOf s at n)
+  zero-kept kept p q i n h e z b = go (eqb (i + 1) n) refl
+    where
+      go : (t : Bool) → eqb (i + 1) n ≡ t → cond t (sideBySide NUMBER 0) (sideBySide MISSHAPEN 0) ≡ kept (fieldOf s at n)
+      go true l = sym p ∙ ap kept (sym (zero-last s at i n (eqb-true (i + 1) n l) e z b))
+      go false l = let m = eqb-false (i + 1) n l in sym q ∙ ap kept (sym (zero-leads s at i n (omega (arith, m)) e b))

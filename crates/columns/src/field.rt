@@ -1,10 +1,11 @@
 // A field: how many columns it has, and what is kept of it.
 use model::text::Field;
 ghost use mathlib.Core.Path.{_≡_};
+ghost use mathlib.Core.Bool.{cond};
 ghost use Prim.Native.Nat.{_/_, _%_};
 ghost use Rattle.model.specs.Lines.{widthOf};
 ghost use Rattle.columns.specs.Kept as Kept;
-ghost use Rattle.columns.specs.Kept.{keptSigned, keptPlain, keptFields};
+ghost use Rattle.columns.specs.Kept.{sideBySide, keptSigned, keptPlain, keptFields};
 
 // The shapes as numbers.
 pub const BLANK: u8 = 0;
@@ -40,6 +41,22 @@ pub fn width(j: usize) -> usize
         return 15;
     }
     4
+}
+
+// What is kept of a field whose number begins with 0: 0 leads only alone, in the last column.
+pub(crate) fn leading_zero(last: bool) -> KeptField
+    ensures { λ r. ⌜ r ≡ cond last (sideBySide Kept.NUMBER 0) (sideBySide Kept.MISSHAPEN 0) ⌝ }
+{
+    if last {
+        return KeptField {
+            shape: NUMBER,
+            number: 0,
+        };
+    }
+    KeptField {
+        shape: MISSHAPEN,
+        number: 0,
+    }
 }
 
 // What is kept of a field that may have a minus.

@@ -7,6 +7,7 @@ use crate::field::KeptField;
 use crate::field::MISSHAPEN;
 use crate::field::NEGATIVE;
 use crate::field::NUMBER;
+use crate::field::leading_zero;
 use crate::spaces::skip_spaces;
 ghost use mathlib.Core.Path.{_≡_};
 ghost use mathlib.Core.Bool.{false, cond};
@@ -91,16 +92,7 @@ fn read_signed(l: &[u8], at: usize, i: usize, n: usize) -> KeptField
         return read_negative(l, at, next, n);
     }
     if b == b'0' {
-        if next == n {
-            return KeptField {
-                shape: NUMBER,
-                number: 0,
-            };
-        }
-        return KeptField {
-            shape: MISSHAPEN,
-            number: 0,
-        };
+        return leading_zero(next == n);
     }
     KeptField {
         shape: MISSHAPEN,

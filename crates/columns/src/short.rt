@@ -6,6 +6,7 @@ use crate::field::BLANK;
 use crate::field::KeptField;
 use crate::field::MISSHAPEN;
 use crate::field::NUMBER;
+use crate::field::leading_zero;
 use crate::spaces::four_more;
 use crate::spaces::skip_spaces;
 ghost use mathlib.Core.Path.{_≡_};
@@ -55,16 +56,7 @@ fn read_plain(l: &[u8], at: usize, i: usize, n: usize) -> KeptField
         return gather_short(l, at, next, n, digit(b) as u16);
     }
     if b == b'0' {
-        if next == n {
-            return KeptField {
-                shape: NUMBER,
-                number: 0,
-            };
-        }
-        return KeptField {
-            shape: MISSHAPEN,
-            number: 0,
-        };
+        return leading_zero(next == n);
     }
     KeptField {
         shape: MISSHAPEN,

@@ -1,9 +1,9 @@
 -- Each byte after the spaces decides its law of the shapes. Assumes nothing.
-use Prim.Native.Nat.{_+_, _<_}
 use native.Mathlib.Omega.{arith}
-use mathlib.Core.Path.{sym, ap, _∙_}
+use mathlib.Core.Path.{refl, sym, ap, _∙_}
 use Rattle.columns.specs.Kept.{keptSigned}
-use Rattle.columns.proofs.Shapes.{leading-digit, minus-first, zero-last, zero-leads, digit-first, other-first, number-first}
+use Rattle.columns.proofs.KeptShapes.{zero-kept}
+use Rattle.columns.proofs.Shapes.{leading-digit, minus-first, digit-first, other-first, number-first}
 use borrow.Author.Needs.{needs}
 use Rattle.columns.proofs.long.read_signed.Statement.{statement}
 use Rattle.columns.proofs.long.read_signed.Tie as tie
@@ -22,15 +22,12 @@ read-negative-requires c κs =
     ((omega arith, omega arith, omega arith), (e, z))
 
 returns-3 : tie.Need-returns-3
-returns-3 c = sym (ap keptSigned (zero-last _ _ (c .before .before .before .before .before .before .before .args .i) (c .before .before .before .before .before .before .before .args .n) (c .if4 .taken) (c .before .before .before .before .before .before .before .pre .1 .0) (c .before .before .before .before .before .before .before .pre .1 .1) (c .before .if3 .taken)))
+returns-3 c =
+    let (e, z, p) = c .before .before .before .before .before .before .before .pre .1 in
+    c .leading-zero .ensures ∙ zero-kept _ _ keptSigned refl refl (c .before .before .before .before .before .before .before .args .i) (c .before .before .before .before .before .before .before .args .n) (c .before .before .before .before .before .before .before .pre .0 .2) e z (c .before .if3 .taken)
 
 returns-4 : tie.Need-returns-4
 returns-4 c =
-    let h : c .before .before .before .before .before .before .before .args .i + 1 < c .before .before .before .before .before .before .before .args .n = omega arith in
-    sym (ap keptSigned (zero-leads _ _ (c .before .before .before .before .before .before .before .args .i) (c .before .before .before .before .before .before .before .args .n) h (c .before .before .before .before .before .before .before .pre .1 .0) (c .before .if3 .taken)))
-
-returns-5 : tie.Need-returns-5
-returns-5 c =
     let (e, z, p) = c .before .before .before .before .before .before .pre .1 in
     sym (ap keptSigned (other-first _ _ (c .before .before .before .before .before .before .args .i) (c .before .before .before .before .before .before .args .n) (c .before .before .before .before .before .before .pre .0 .2) e p (sym (c .before .before .before .is-leading .ensures) ∙ c .before .before .if1 .left) (c .before .if2 .left) (c .if3 .left)))
 
@@ -48,6 +45,6 @@ read-signed-spec =
     (λ c. search needs)
     read-negative-requires
     (λ c. search needs)
+    (λ c κs. search needs)
     returns-3
-    returns-4
-    returns-5)
+    returns-4)

@@ -1,10 +1,9 @@
 -- Each byte after the spaces decides its law of the shapes. Assumes nothing.
-use Prim.Native.Nat.{_+_, _<_}
 use native.Mathlib.Omega.{arith}
-use mathlib.Core.Path.{sym, ap, _∙_}
+use mathlib.Core.Path.{refl, sym, _∙_}
 use Rattle.columns.specs.Kept.{keptPlain}
-use Rattle.columns.proofs.KeptShapes.{not-plain}
-use Rattle.columns.proofs.Shapes.{leading-digit, zero-last, zero-leads, digit-first, number-first}
+use Rattle.columns.proofs.KeptShapes.{not-plain, zero-kept}
+use Rattle.columns.proofs.Shapes.{leading-digit, digit-first, number-first}
 use borrow.Author.Needs.{needs}
 use Rattle.columns.proofs.short.read_plain.Statement.{statement}
 use Rattle.columns.proofs.short.read_plain.Tie as tie
@@ -18,15 +17,12 @@ gather-short-requires c κs =
     ((omega arith, omega arith, omega arith), (digit-first _ _ (c .before .before .before .before .before .args .i) e (sym (c .before .before .is-leading .ensures) ∙ c .before .if1 .taken), rw (c .digit .ensures) (number-first _ _ (c .before .before .before .before .before .args .i) z)))
 
 returns-2 : tie.Need-returns-2
-returns-2 c = sym (ap keptPlain (zero-last _ _ (c .before .before .before .before .before .before .args .i) (c .before .before .before .before .before .before .args .n) (c .if3 .taken) (c .before .before .before .before .before .before .pre .1 .0) (c .before .before .before .before .before .before .pre .1 .1) (c .before .if2 .taken)))
+returns-2 c =
+    let (e, z, p) = c .before .before .before .before .before .before .pre .1 in
+    c .leading-zero .ensures ∙ zero-kept _ _ keptPlain refl refl (c .before .before .before .before .before .before .args .i) (c .before .before .before .before .before .before .args .n) (c .before .before .before .before .before .before .pre .0 .2) e z (c .before .if2 .taken)
 
 returns-3 : tie.Need-returns-3
 returns-3 c =
-    let h : c .before .before .before .before .before .before .args .i + 1 < c .before .before .before .before .before .before .args .n = omega arith in
-    sym (ap keptPlain (zero-leads _ _ (c .before .before .before .before .before .before .args .i) (c .before .before .before .before .before .before .args .n) h (c .before .before .before .before .before .before .pre .1 .0) (c .before .if2 .taken)))
-
-returns-4 : tie.Need-returns-4
-returns-4 c =
     let (e, z, p) = c .before .before .before .before .before .pre .1 in
     sym (not-plain _ _ (c .before .before .before .before .before .args .i) (c .before .before .before .before .before .args .n) (c .before .before .before .before .before .pre .0 .2) e z p (sym (c .before .before .is-leading .ensures) ∙ c .before .if1 .left) (c .if2 .left))
 
@@ -42,6 +38,6 @@ read-plain-spec =
     (λ c. search needs)
     gather-short-requires
     (λ c. search needs)
+    (λ c κs. search needs)
     returns-2
-    returns-3
-    returns-4)
+    returns-3)
