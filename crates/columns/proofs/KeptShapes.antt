@@ -15,7 +15,7 @@ use Rattle.model.specs.declared.text.Field.the-variants.{Blank, Number, Negativ
 use Rattle.model.specs.Text.{space, isDigit, nextShape, shapeOf, digitsOf, fieldFrom, fieldOf}
 use Rattle.model.specs.Lines.{fieldAt}
 use Rattle.columns.specs.declared.field.KeptField.{KeptField}
-use Rattle.columns.specs.Kept.{NUMBER, NEGATIVE, MISSHAPEN, sideBySide, keptSigned, keptPlain, keptAt, shapesTo, packed}
+use Rattle.columns.specs.Kept.{NUMBER, NEGATIVE, MISSHAPEN, sideBySide, keptSigned, keptPlain, keptAt, shapesTo, packed, six, keptFields}
 use Rattle.columns.proofs.Shapes.{minus-first, other-first, zero-last, zero-leads}
 
 plain-small : (f : Field) → keptPlain f .shape < 4
@@ -43,9 +43,12 @@ pub signed-number : (t : Bool) (v : ℕ) → sideBySide (cond t NEGATIVE NUMBER)
 signed-number true v = refl
 signed-number false v = refl
 
-pub six-shapes : (fs : List Field) → packed (keptAt fs 0 .shape) (keptAt fs 1 .shape) (keptAt fs 2 .shape) (keptAt fs 3 .shape) (keptAt fs 4 .shape) (keptAt fs 5 .shape) ≡ shapesTo fs 6
-unfolding shapesTo
-six-shapes fs = omega arith
+-- six fields, each kept as it is kept of these
+pub six-kept : (fs : List Field) {a b c d e f : KeptField} → a ≡ keptAt fs 0 → b ≡ keptAt fs 1 → c ≡ keptAt fs 2 → d ≡ keptAt fs 3 → e ≡ keptAt fs 4 → f ≡ keptAt fs 5 → six a b c d e f ≡ keptFields fs
+unfolding keptFields shapesTo
+six-kept fs p q r t u v =
+    let n : packed (keptAt fs 0 .shape) (keptAt fs 1 .shape) (keptAt fs 2 .shape) (keptAt fs 3 .shape) (keptAt fs 4 .shape) (keptAt fs 5 .shape) ≡ shapesTo fs 6 = omega arith in
+    rw (p, q, r, t, u, v, n)
 
 pub fourth-of-six : (fs : List Field) → shapesTo fs 6 / 16 % 4 ≡ keptAt fs 3 .shape
 unfolding shapesTo

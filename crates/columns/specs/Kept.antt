@@ -56,6 +56,19 @@ shapesTo fs (suc n) = shapesTo fs n * 4 + keptAt fs n .shape
 abbrev pub packed : ℕ → ℕ → ℕ → ℕ → ℕ → ℕ → ℕ
 packed a b c d e f = ((((a * 4 + b) * 4 + c) * 4 + d) * 4 + e) * 4 + f
 
+-- six fields, each kept by itself, as those of a line
+abbrev pub six : KeptField → KeptField → KeptField → KeptField → KeptField → KeptField → KeptFields
+six a b c d e f =
+    record {
+      shapes = packed (a .shape) (b .shape) (c .shape) (d .shape) (e .shape) (f .shape);
+      first = a .number;
+      second = b .number;
+      third = c .number;
+      fourth = d .number;
+      fifth = e .number;
+      sixth = f .number;
+    }
+
 -- what is kept of the six fields of a line
 unfoldable pub keptFields : List Field → KeptFields
 unfolding shapesTo

@@ -128,6 +128,28 @@ pub fn sixth_shape(shapes: u32) -> u8
     (shapes % 4) as u8
 }
 
+// Six fields, each kept by itself, as those of a line.
+pub fn six(
+    a: KeptField,
+    b: KeptField,
+    c: KeptField,
+    d: KeptField,
+    e: KeptField,
+    f: KeptField,
+) -> KeptFields
+    ensures { λ r. ⌜ r ≡ Kept.six a b c d e f ⌝ }
+{
+    KeptFields {
+        shapes: packed(a.shape, b.shape, c.shape, d.shape, e.shape, f.shape),
+        first: a.number,
+        second: b.number,
+        third: c.number,
+        fourth: d.number,
+        fifth: e.number,
+        sixth: f.number,
+    }
+}
+
 // What is kept of six fields.
 pub fn kept_fields(fs: [Field; 6]) -> KeptFields
     ensures { λ r. ⌜ r ≡ keptFields fs ⌝ }
@@ -144,13 +166,5 @@ pub fn kept_fields(fs: [Field; 6]) -> KeptFields
     let d = kept_plain(f4);
     let e = kept_plain(f5);
     let f = kept_signed(f6);
-    KeptFields {
-        shapes: packed(a.shape, b.shape, c.shape, d.shape, e.shape, f.shape),
-        first: a.number,
-        second: b.number,
-        third: c.number,
-        fourth: d.number,
-        fifth: e.number,
-        sixth: f.number,
-    }
+    six(a, b, c, d, e, f)
 }

@@ -2,37 +2,21 @@
 use Prim.Native.Nat.{ℕ, _/_, _%_}
 use native.Mathlib.Omega.{arith}
 use mathlib.Core.Path.{_≡_, refl}
-use mathlib.Core.Bool.{true, cond, false≢true}
+use mathlib.Core.Bool.{true, cond}
 use mathlib.Core.List.{List}
 use lib.Dec.{eqb}
 use Rattle.model.specs.declared.text.Field.{Field}
 use Rattle.model.specs.declared.text.Field.the-variants.{Blank, Number, Negative, Misshapen}
-use Rattle.model.specs.declared.text.Kind.{Kind}
-use Rattle.model.specs.declared.text.Kind.the-variants.{Empty, Plain, Optional, Signed}
 use Rattle.model.specs.declared.text.Word.{Word}
 use Rattle.model.specs.Limits.{blankVariable}
-use Rattle.model.specs.Words.{shaped}
 use Rattle.model.specs.Lines.{fieldAt, kindAt, inShape, variableOrBlank, plusIn, minusIn}
 use Rattle.model.proofs.Tests.{every-below}
 use Rattle.columns.specs.declared.field.KeptFields.{KeptFields}
 use Rattle.columns.specs.Kept.{BLANK, NEGATIVE, keptPlain, keptSigned, keptFields}
 use Rattle.columns.proofs.KeptShapes.{fourth-of-six, sixth-of-six}
-use Rattle.lines.proofs.KeptNumbers.{unsigned, unsigned-kinds, field-shaped, number-kept}
+use Rattle.lines.proofs.KeptNumbers.{unsigned, unsigned-kinds, blank-or-number, field-shaped, number-kept}
 use Rattle.decoded.specs.Rows.{numbers}
 use Rattle.decoded.specs.Encoded.{kindOf, rowOf}
-
-variable-kept : (k : Kind) (f : Field) → unsigned k ≡ true → shaped k f ≡ true → cond (eqb (keptPlain f .shape) BLANK) blankVariable (keptPlain f .number) ≡ variableOrBlank f
-unfolding shaped
-variable-kept k Blank u e = refl
-variable-kept k (Number v) u e = refl
-variable-kept Empty (Negative v) u e = absurd (false≢true e)
-variable-kept (Plain c) (Negative v) u e = absurd (false≢true e)
-variable-kept (Optional c) (Negative v) u e = absurd (false≢true e)
-variable-kept (Signed c) (Negative v) u e = absurd (false≢true u)
-variable-kept Empty Misshapen u e = absurd (false≢true e)
-variable-kept (Plain c) Misshapen u e = absurd (false≢true e)
-variable-kept (Optional c) Misshapen u e = absurd (false≢true e)
-variable-kept (Signed c) Misshapen u e = absurd (false≢true e)
 
 plus-kept : (f : Field) → cond (eqb (keptSigned f .shape) NEGATIVE) 0 (keptSigned f .number) ≡ plusIn f
 plus-kept Blank = refl
@@ -52,6 +36,9 @@ pub row-kept : (w : Word) (fs : List Field) (x : KeptFields) → x ≡ keptField
     → numbers k (x .first) (x .second) (x .third) d (x .fifth) f g ≡ rowOf w fs
 unfolding keptFields
 row-kept w fs x e h p q a b c d =
+    let variable =
+    blank-or-number (λ (y : Field). cond (eqb (keptPlain y .shape) BLANK) blankVariable (keptPlain y .number) ≡ variableOrBlank y) (kindAt w 3) (fieldAt fs 3)
+    (every-below (λ (i : ℕ). unsigned (kindAt w i)) 5 (unsigned-kinds w) 3 (omega arith)) (field-shaped w fs h 3 (omega arith)) refl (λ v. refl) in
     rw (
       a,
       b,
@@ -62,7 +49,7 @@ row-kept w fs x e h p q a b c d =
       e,
       fourth-of-six fs,
       sixth-of-six fs,
-      variable-kept (kindAt w 3) (fieldAt fs 3) (every-below (λ (i : ℕ). unsigned (kindAt w i)) 5 (unsigned-kinds w) 3 (omega arith)) (field-shaped w fs h 3 (omega arith)),
+      variable,
       plus-kept (fieldAt fs 5),
       minus-kept (fieldAt fs 5),
       number-kept w fs h 0 (omega arith),

@@ -46,15 +46,19 @@ unsigned-kinds Most = refl
 unsigned-kinds Strp = refl
 unsigned-kinds Divm = refl
 
-plain-number : (k : Kind) (f : Field) → unsigned k ≡ true → shaped k f ≡ true → keptPlain f .number ≡ valueIn f
+-- a field in shape for such a kind is blank or a number
+pub blank-or-number : (P : Field → Type 0) (k : Kind) (f : Field) → unsigned k ≡ true → shaped k f ≡ true → P Blank → ((v : ℕ) → P (Number v)) → P f
 unfolding shaped
-plain-number k Blank u e = refl
-plain-number k (Number v) u e = refl
-plain-number Empty (Negative v) u e = absurd (false≢true e)
-plain-number (Plain c) (Negative v) u e = absurd (false≢true e)
-plain-number (Optional c) (Negative v) u e = absurd (false≢true e)
-plain-number (Signed c) (Negative v) u e = absurd (false≢true u)
-plain-number k Misshapen u e = refl
+blank-or-number P k Blank u e b n = b
+blank-or-number P k (Number v) u e b n = n v
+blank-or-number P Empty (Negative v) u e b n = absurd (false≢true e)
+blank-or-number P (Plain c) (Negative v) u e b n = absurd (false≢true e)
+blank-or-number P (Optional c) (Negative v) u e b n = absurd (false≢true e)
+blank-or-number P (Signed c) (Negative v) u e b n = absurd (false≢true u)
+blank-or-number P Empty Misshapen u e b n = absurd (false≢true e)
+blank-or-number P (Plain c) Misshapen u e b n = absurd (false≢true e)
+blank-or-number P (Optional c) Misshapen u e b n = absurd (false≢true e)
+blank-or-number P (Signed c) Misshapen u e b n = absurd (false≢true e)
 
 signed-number : (f : Field) → keptSigned f .number ≡ valueIn f
 signed-number Blank = refl
@@ -70,7 +74,7 @@ module _ (w : Word) (fs : List Field) (e : inShape w fs ≡ true) where
   -- of F1 to F5
   plain-kept : (j : ℕ) → j < 5 → keptPlain (fieldAt fs j) .number ≡ valueIn (fieldAt fs j)
   plain-kept j h =
-      plain-number (kindAt w j) (fieldAt fs j) (every-below (λ (i : ℕ). unsigned (kindAt w i)) 5 (unsigned-kinds w) j h) (field-shaped j (omega arith))
+      blank-or-number (λ (f : Field). keptPlain f .number ≡ valueIn f) (kindAt w j) (fieldAt fs j) (every-below (λ (i : ℕ). unsigned (kindAt w i)) 5 (unsigned-kinds w) j h) (field-shaped j (omega arith)) refl (λ v. refl)
 
   pub number-kept : (j : ℕ) → j < 6 → keptAt fs j .number ≡ valueIn (fieldAt fs j)
   number-kept j h = go (eqb j 5) refl

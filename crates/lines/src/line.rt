@@ -1,6 +1,6 @@
 // A line of 40 bytes: its spelling and its six fields.
 use columns::field::KeptFields;
-use columns::field::packed;
+use columns::field::six;
 use columns::long::read_long;
 use columns::short::read_short;
 ghost use mathlib.Core.Path.{_≡_};
@@ -50,13 +50,5 @@ pub fn read_fields(l: &[u8]) -> KeptFields
     let d = read_short(l, 16);
     let e = read_short(l, 20);
     let f = read_long(l, 24);
-    KeptFields {
-        shapes: packed(a.shape, b.shape, c.shape, d.shape, e.shape, f.shape),
-        first: a.number,
-        second: b.number,
-        third: c.number,
-        fourth: d.number,
-        fifth: e.number,
-        sixth: f.number,
-    }
+    six(a, b, c, d, e, f)
 }
