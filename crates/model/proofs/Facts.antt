@@ -9,7 +9,7 @@ use lib.ListN.{length, set, length-set, List·getD-eq-default}
 use lib.Seq.{getD-set-same, getD-set-other, set-out}
 use lib.Dec.{eqb, ltb}
 use borrow.Author.Tests.{eqb-true, lt-ltb}
-use Rattle.model.specs.Types.{Range, Stripe, Claim, Leas, Most, Strp}
+use Rattle.model.specs.Types.{Range, Stripe, Claim, Leas, Most, Strp, Turn}
 use Rattle.model.specs.Limits.{registers, variables, blankVariable, MAX}
 use Rattle.model.specs.Facts.{exactly, registerRange, sizeRange, unclaimedRange, Facts, unclaimed, rangeOf, lo, hi, withClaim, withClaims, factsOf}
 use Rattle.model.specs.Lists.{everyBelow}
@@ -29,6 +29,7 @@ module _ (val : ℕ → ℕ) where
   met-claim f (Leas v n) h t = let r = h .ranges v in record { ranges = in-reset val (f .ranges) v _ (omega arith) (h .ranges); stripes = h .stripes }
   met-claim f (Most v n) h t = let r = h .ranges v in record { ranges = in-reset val (f .ranges) v _ (omega arith) (h .ranges); stripes = h .stripes }
   met-claim f (Strp s) h t = record { ranges = h .ranges; stripes = hold-more val (f .stripes) s (h .stripes) t }
+  met-claim f (Turn r) h t = h
 
   pub met-claims : (f : Facts) (cs : List Claim) → Met val f → ClaimsHold val cs → Met val (withClaims f cs)
   met-claims f [] h t = h
@@ -39,6 +40,7 @@ claim-long : (f : Facts) (c : Claim) → length (withClaim f c .ranges) ≡ leng
 claim-long f (Leas v n) = length-set (f .ranges) v _
 claim-long f (Most v n) = length-set (f .ranges) v _
 claim-long f (Strp s) = refl
+claim-long f (Turn r) = refl
 
 claims-long : (f : Facts) (cs : List Claim) → length (withClaims f cs .ranges) ≡ length (f .ranges)
 claims-long f [] = refl
@@ -130,6 +132,7 @@ narrow-claim : (f : Facts) (c : Claim) → ClaimLimited c → Narrow f → Narro
 narrow-claim f (Leas v n) t h = narrow-set (f .ranges) v _ h (h v)
 narrow-claim f (Most v n) t h = narrow-set (f .ranges) v _ h (rw (top-claimed v (t .0)) (t .1))
 narrow-claim f (Strp s) t h = h
+narrow-claim f (Turn r) t h = h
 
 narrow-claims : (f : Facts) (cs : List Claim) → All ClaimLimited cs → Narrow f → Narrow (withClaims f cs)
 narrow-claims f [] t h = h

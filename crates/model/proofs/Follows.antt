@@ -7,7 +7,7 @@ use native.Mathlib.Nat.{add-comm, mul-add, mul-le-mul-left, one-mul}
 use native.Mathlib.Omega.{arith}
 use lib.Dec.{eqb, leb}
 use borrow.Author.Tests.{leb-true, le-leb, eqb-true}
-use Rattle.model.specs.Types.{Stripe, Claim, Leas, Most, Strp}
+use Rattle.model.specs.Types.{Stripe, Claim, Leas, Most, Strp, Turn}
 use Rattle.model.specs.Limits.{variables, greatestLinks}
 use Rattle.model.specs.Lists.{some}
 use Rattle.model.specs.Facts.{Facts, lo, hi, nonEmpty}
@@ -88,6 +88,7 @@ abbrev pub ClaimHolds : (ℕ → ℕ) → Claim → Type 0
 ClaimHolds val (Leas v n) = n ≤ val v
 ClaimHolds val (Most v n) = val v ≤ n
 ClaimHolds val (Strp s) = Holds val s
+ClaimHolds val (Turn r) = Unit {0}
 
 abbrev pub ClaimsHold : (ℕ → ℕ) → List Claim → Type 0
 ClaimsHold val [] = Unit {0}
@@ -99,6 +100,7 @@ module _ (val : ℕ → ℕ) (f : Facts) (h : Met val f) where
   claim-holds (Leas v n) e = let r = h .ranges v in omega (arith, leb-true)
   claim-holds (Most v n) e = let r = h .ranges v in omega (arith, leb-true)
   claim-holds (Strp s) e = follows-holds val f h greatestLinks s e
+  claim-holds (Turn r) e = tt
 
   -- where no claim is lost, every claim holds; lines count from 1, so that 0 names none
   none-lost : (n : ℕ) (cs : List Claim) → 1 ≤ n → firstLost f n cs ≡ 0 → ClaimsHold val cs

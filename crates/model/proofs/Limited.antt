@@ -6,7 +6,7 @@ use Prim.Native.Nat.{ℕ, _≤_, _<_}
 use native.Mathlib.Omega.{arith}
 use lib.Dec.{ltb, leb, eqb}
 use borrow.Author.Tests.{ltb-true, leb-true, eqb-false, not-true}
-use Rattle.model.specs.Types.{Field, Blank, Number, Negative, Misshapen, Word, STOP, SETC, COPY, ADDW, SUBW, MULW, DIVF, LOAD, STOR, JUMP, BLTU, BEQU, LEAS, MOST, STRP, DIVM, FoundWord, Unknown, Known, empty, variable, number, refusedLine, LineBytes, FieldShape, NumberLimits, SameRegister, Accepted, refused}
+use Rattle.model.specs.Types.{Field, Blank, Number, Negative, Misshapen, Word, STOP, SETC, COPY, ADDW, SUBW, MULW, DIVF, LOAD, STOR, JUMP, BLTU, BEQU, LEAS, MOST, STRP, DIVM, TURN, FoundWord, Unknown, Known, empty, variable, number, refusedLine, LineBytes, FieldShape, NumberLimits, SameRegister, Accepted, refused}
 use Rattle.model.specs.Limits.{registers, variables, MAX, greatestSize, greatestScale, greatestOffset, greatestBound, greatestPoints}
 use Rattle.model.specs.Text.{valueIn}
 use Rattle.model.specs.Words.{words, wordAmong, fieldsOf, shaped, within, allowed}
@@ -120,6 +120,7 @@ module _ (fs : List Field) where
     register = ltb-true (F3 fs) registers (field-allowed DIVM e 2 (omega arith));
     differ = eqb-false (F1 fs) (F3 fs) (not-true _ n);
   }
+  line-limited TURN e n = ltb-true (F1 fs) registers (field-allowed TURN e 0 (omega arith))
 
   found-limited : (place : ℕ) (w : FoundWord) → LineLimited (lineFound place w fs)
   unfolding judged

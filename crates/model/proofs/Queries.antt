@@ -8,14 +8,10 @@ use lib.Seq.{getD-set-other}
 use lib.Dec.{leb, ltb, eqb}
 use borrow.Author.Tests.{eqb-false, eq-eqb}
 use Rattle.model.specs.Types.{Width, Instruction, Stop, Setc, Copy, Addw, Subw, Mulw, Divf, Load, Stor, Jump, Bltu, Bequ, Divm}
-use Rattle.model.specs.Lists.{some}
+use Rattle.model.specs.Lists.{some, among}
 use Rattle.model.specs.Instructions.{writes, targets, goesOn}
 use Rattle.model.specs.Machine.{Config, valueOf, operandValue, bytesOf, tableOf, readBytes, writeBytes, address, wrote, wroteBoth, stored, Step, next, stopped, errorState, inside, stepOf}
 use Rattle.model.proofs.Tests.{cond-cases, or-false, or-true}
-
--- the variable is one of the list
-abbrev pub among : ℕ → List ℕ → Bool
-among v l = some (eqb v) l
 
 -- what a step leaves of the registers that it does not write
 abbrev Leaves : Instruction → Config → Step → Type 0

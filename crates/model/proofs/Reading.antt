@@ -51,7 +51,7 @@ read-more : (n : ℕ) (q : Reading) (l : Line) → ReadWell n q → LineLimited 
 read-more n (refusedReading r) l h t = tt
 read-more n (going ps cs) (refusedLine r) h t = tt
 read-more n (going ps cs) (claimLine c) h t =
-    cond-cases (ReadWell (suc n)) (inOrder cs c) (going ps (cs ++ (c ∷ []))) (refusedReading (ClaimOrder (n + 1)))
+    cond-cases (ReadWell (suc n)) (inOrder n cs c) (going ps (cs ++ (c ∷ []))) (refusedReading (ClaimOrder (n + 1)))
     (λ e. (h .0, all-snoc ClaimLimited cs c (h .1) t, rw (length-append cs (c ∷ [])) (omega arith))) (λ e. tt)
 read-more n (going ps cs) (instructionLine i) h t =
     (all-snoc PointLimited ps _ (h .0) (record { instruction = t; claims = h .1; before = omega arith }), tt, omega arith)

@@ -1,7 +1,7 @@
--- Document 01, 'Turned back, in checking order', with the numbers 18 and 19 of document 02: the number, the place and the second place of each refusal.
+-- Document 01, 'Turned back, in checking order', with the numbers 18 to 20 of document 02: the number, the place and the second place of each refusal.
 use Prim.Native.Nat.{ℕ}
 use mathlib.Core.Bool.{Bool, true, false}
-use Rattle.model.specs.Types.{Refusal, ListingLength, LineBytes, UnknownWord, FieldShape, NumberLimits, ClaimOrder, LastLineClaim, TooManyPoints, NoSuchTarget, NoEnd, EmptyStart, DivisorMayBeZero, AccessMayLeave, ClaimMayFail, TableLength, NoSuchPoint, ClaimsNotMet, NoRoom, SameRegister, Judgement, Accepted, refused}
+use Rattle.model.specs.Types.{Refusal, ListingLength, LineBytes, UnknownWord, FieldShape, NumberLimits, ClaimOrder, LastLineClaim, TooManyPoints, NoSuchTarget, NoEnd, EmptyStart, DivisorMayBeZero, AccessMayLeave, ClaimMayFail, TableLength, NoSuchPoint, ClaimsNotMet, NoRoom, SameRegister, UncoveredEdge, Judgement, Accepted, refused}
 
 -- the number of a refusal
 abbrev pub numberOf : Refusal → ℕ
@@ -24,6 +24,7 @@ numberOf NoSuchPoint = 16
 numberOf ClaimsNotMet = 17
 numberOf NoRoom = 18
 numberOf (SameRegister l) = 19
+numberOf (UncoveredEdge l) = 20
 
 -- its place: a line counted from 1, or 0 for none
 abbrev pub placeOf : Refusal → ℕ
@@ -46,6 +47,7 @@ placeOf NoSuchPoint = 0
 placeOf ClaimsNotMet = 0
 placeOf NoRoom = 0
 placeOf (SameRegister l) = l
+placeOf (UncoveredEdge l) = l
 
 -- its second place: the line of the claim for 14, 0 for all others
 abbrev pub secondPlaceOf : Refusal → ℕ
@@ -68,6 +70,7 @@ secondPlaceOf NoSuchPoint = 0
 secondPlaceOf ClaimsNotMet = 0
 secondPlaceOf NoRoom = 0
 secondPlaceOf (SameRegister l) = 0
+secondPlaceOf (UncoveredEdge l) = 0
 
 -- whether a judgement turns back
 abbrev pub isRefused : Judgement → Bool

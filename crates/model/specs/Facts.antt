@@ -5,7 +5,7 @@ use mathlib.Core.Bool.{Bool, _&&_, cond}
 use mathlib.Core.List.{List, [], _∷_, _++_}
 use lib.ListN.{getD, set}
 use lib.Dec.{leb, ltb}
-use Rattle.model.specs.Types.{Range, Stripe, Claim, Leas, Most, Strp}
+use Rattle.model.specs.Types.{Range, Stripe, Claim, Leas, Most, Strp, Turn}
 use Rattle.model.specs.Limits.{registers, variables, MAX, greatestSize}
 use Rattle.model.specs.Lists.{everyBelow, every}
 
@@ -55,11 +55,12 @@ lo rs v = rangeOf rs v .lo
 abbrev pub hi : List Range → ℕ → ℕ
 hi rs v = rangeOf rs v .hi
 
--- one claim more
+-- one claim more; TURN claims nothing
 abbrev pub withClaim : Facts → Claim → Facts
 withClaim f (Leas v n) = record { ranges = set (f .ranges) v (between n (hi (f .ranges) v)); stripes = f .stripes }
 withClaim f (Most v n) = record { ranges = set (f .ranges) v (between (lo (f .ranges) v) n); stripes = f .stripes }
 withClaim f (Strp s) = record { ranges = f .ranges; stripes = f .stripes ++ (s ∷ []) }
+withClaim f (Turn r) = f
 
 -- the facts with the claims added in order
 abbrev pub withClaims : Facts → List Claim → Facts

@@ -1,10 +1,10 @@
 -- Document 01, 'What a step does to claims': when a claim follows from what is known.
 -- A link only adds: the bound b − a × m of the new goal is plus + a × m's minus, less minus + a × m's plus. A goal's bound has no limits.
 use Prim.Native.Nat.{ℕ, zero, suc, _+_, _*_}
-use mathlib.Core.Bool.{Bool, _&&_, _||_, cond}
+use mathlib.Core.Bool.{Bool, true, _&&_, _||_, cond}
 use mathlib.Core.List.{List, [], _∷_}
 use lib.Dec.{leb, eqb}
-use Rattle.model.specs.Types.{Range, Stripe, Claim, Leas, Most, Strp}
+use Rattle.model.specs.Types.{Range, Stripe, Claim, Leas, Most, Strp, Turn}
 use Rattle.model.specs.Limits.{blankVariable, greatestLinks}
 use Rattle.model.specs.Lists.{some}
 use Rattle.model.specs.Facts.{Facts, lo, hi}
@@ -56,6 +56,7 @@ unfolding follows
 claimFollows f (Leas v n) = leb n (lo (f .ranges) v)
 claimFollows f (Most v n) = leb (hi (f .ranges) v) n
 claimFollows f (Strp g) = follows f greatestLinks g
+claimFollows f (Turn r) = true
 
 -- of claims on successive lines from line n on, the line of the first that does not follow; 0 where all do
 unfoldable pub firstLost : Facts → ℕ → List Claim → ℕ

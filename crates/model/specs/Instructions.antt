@@ -82,3 +82,7 @@ hasTarget i = not (isEmpty (targets i))
 -- STOP: it neither goes on nor names a target
 abbrev pub isStop : Instruction → Bool
 isStop i = not (goesOn i) && not (hasTarget i)
+
+-- JUMP: it names a target and does not go on
+abbrev pub isJump : Instruction → Bool
+isJump i = not (goesOn i) && hasTarget i

@@ -18,3 +18,4 @@ pub mod Run
 pub mod Output
 pub mod Cases
 pub mod Safety
+pub mod Bound

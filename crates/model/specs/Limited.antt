@@ -2,7 +2,7 @@
 -- The contracts of the code ask for them; that every line that is read keeps them is proved.
 use Prim.Native.Nat.{ℕ, _≤_, _<_}
 use mathlib.Core.Path.{_≡_}
-use Rattle.model.specs.Types.{Operand, variable, number, Instruction, Stop, Setc, Copy, Addw, Subw, Mulw, Divf, Load, Stor, Jump, Bltu, Bequ, Divm, Stripe, Claim, Leas, Most, Strp, Line, refusedLine, claimLine, instructionLine}
+use Rattle.model.specs.Types.{Operand, variable, number, Instruction, Stop, Setc, Copy, Addw, Subw, Mulw, Divf, Load, Stor, Jump, Bltu, Bequ, Divm, Stripe, Claim, Leas, Most, Strp, Turn, Line, refusedLine, claimLine, instructionLine}
 use Rattle.model.specs.Limits.{registers, variables, blankVariable, MAX, greatestScale, greatestOffset, greatestBound, greatestPoints}
 use Rattle.model.specs.Facts.{unclaimedRange}
 
@@ -67,6 +67,7 @@ abbrev pub ClaimLimited : Claim → Type 0
 ClaimLimited (Leas v n) = (v < variables) × (n ≤ unclaimedRange v .hi)
 ClaimLimited (Most v n) = (v < variables) × (n ≤ unclaimedRange v .hi)
 ClaimLimited (Strp s) = StripeLimited s
+ClaimLimited (Turn r) = r < registers
 
 -- a line, by what it holds
 abbrev pub LineLimited : Line → Type 0

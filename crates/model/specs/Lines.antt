@@ -6,7 +6,7 @@ use mathlib.Core.Bool.{Bool, true, not, _&&_, cond}
 use mathlib.Core.List.{List, [], _∷_}
 use lib.ListN.{getD, set}
 use lib.Dec.{leb, eqb}
-use Rattle.model.specs.Types.{Field, Blank, Number, Negative, Misshapen, Word, STOP, SETC, COPY, ADDW, SUBW, MULW, DIVF, LOAD, STOR, JUMP, BLTU, BEQU, LEAS, MOST, STRP, DIVM, FoundWord, Unknown, Known, Kind, empty, Width, One, Two, Four, Table, Trays, Results, Operand, variable, number, Stop, Setc, Copy, Addw, Subw, Mulw, Divf, Load, Stor, Jump, Bltu, Bequ, Divm, Leas, Most, Strp, Line, refusedLine, claimLine, instructionLine, LineBytes, UnknownWord, FieldShape, NumberLimits, SameRegister, Judgement, Accepted, refused}
+use Rattle.model.specs.Types.{Field, Blank, Number, Negative, Misshapen, Word, STOP, SETC, COPY, ADDW, SUBW, MULW, DIVF, LOAD, STOR, JUMP, BLTU, BEQU, LEAS, MOST, STRP, DIVM, TURN, FoundWord, Unknown, Known, Kind, empty, Width, One, Two, Four, Table, Trays, Results, Operand, variable, number, Stop, Setc, Copy, Addw, Subw, Mulw, Divf, Load, Stor, Jump, Bltu, Bequ, Divm, Leas, Most, Strp, Turn, Line, refusedLine, claimLine, instructionLine, LineBytes, UnknownWord, FieldShape, NumberLimits, SameRegister, Judgement, Accepted, refused}
 use Rattle.model.specs.Limits.{blankVariable}
 use Rattle.model.specs.Lists.{everyBelow}
 use Rattle.model.specs.Text.{space, lineEnd, fieldOf, valueIn, fieldSet}
@@ -97,6 +97,7 @@ registersDiffer LEAS fs = true
 registersDiffer MOST fs = true
 registersDiffer STRP fs = true
 registersDiffer DIVM fs = not (eqb (F1 fs) (F3 fs))
+registersDiffer TURN fs = true
 
 -- 19, for a word whose fields are in shape and within their limits
 abbrev pub registersJudged : ℕ → Word → List Field → Judgement
@@ -161,6 +162,7 @@ lineFrom STRP fs =
     claimLine
     (Strp (record { x = F1 fs; a = F2 fs; y = F3 fs; z = variableOrBlank (fieldAt fs 3); plus = plusIn (fieldAt fs 5); minus = minusIn (fieldAt fs 5) }))
 lineFrom DIVM fs = instructionLine (Divm (F1 fs) (F2 fs) (F3 fs) (operandFrom (F5 fs) (F6 fs)))
+lineFrom TURN fs = claimLine (Turn (F1 fs))
 
 -- the line, where nothing turns it back
 abbrev pub lineOr : Judgement → Line → Line

@@ -5,7 +5,7 @@ use mathlib.Core.Bool.{Bool, true, false, _&&_, cond}
 use mathlib.Core.List.{List, [], _∷_, _++_}
 use lib.ListN.{length, getD, take, drop}
 use lib.Dec.{leb, ltb, eqb}
-use Rattle.model.specs.Types.{Instruction, Stop, Claim, Leas, Most, Strp, Line, refusedLine, claimLine, instructionLine, Refusal, ListingLength, ClaimOrder, LastLineClaim, TooManyPoints, NoSuchTarget, NoEnd, EmptyStart, NoSuchPoint, Judgement, Accepted, refused, ClaimPart}
+use Rattle.model.specs.Types.{Instruction, Stop, Claim, Leas, Most, Strp, Turn, Line, refusedLine, claimLine, instructionLine, Refusal, ListingLength, ClaimOrder, LastLineClaim, TooManyPoints, NoSuchTarget, NoEnd, EmptyStart, NoSuchPoint, Judgement, Accepted, refused, ClaimPart}
 use Rattle.model.specs.Limits.{lineBytes, greatestListing, greatestPoints, greatestStripes}
 use Rattle.model.specs.Answers.{_andThen_}
 use Rattle.model.specs.Instructions.{targets, goesOn}
@@ -26,7 +26,7 @@ firstLine q = q .line - length (q .claims)
 abbrev pub lineAt : List ℕ → ℕ → List ℕ
 lineAt s k = take lineBytes (drop (k * lineBytes) s)
 
--- a claim may stand right after another: LEAS lines by rising variable, then MOST lines by rising variable, then STRP lines
+-- a claim may stand right after another: LEAS lines by rising variable, then MOST lines by rising variable, then STRP lines; a TURN only before all of them
 abbrev pub mayFollow : Claim → Claim → Bool
 mayFollow (Leas u m) (Leas v n) = ltb u v
 mayFollow (Leas u m) (Most v n) = true
@@ -37,12 +37,26 @@ mayFollow (Most u m) (Strp s) = true
 mayFollow (Strp q) (Leas v n) = false
 mayFollow (Strp q) (Most v n) = false
 mayFollow (Strp q) (Strp s) = true
+mayFollow (Turn r) (Leas v n) = true
+mayFollow (Turn r) (Most v n) = true
+mayFollow (Turn r) (Strp s) = true
+mayFollow (Leas u m) (Turn r) = false
+mayFollow (Most u m) (Turn r) = false
+mayFollow (Strp q) (Turn r) = false
+mayFollow (Turn q) (Turn r) = false
 
--- a claim may stand after the last of some
-abbrev pub mayFollowAll : List Claim → Claim → Bool
-mayFollowAll [] c = true
-mayFollowAll (b ∷ []) c = mayFollow b c
-mayFollowAll (a ∷ (b ∷ bs)) c = mayFollowAll (b ∷ bs) c
+-- a claim may be the first of its point, with k lines before it: TURN only where it is the listing's first line
+abbrev pub mayBegin : ℕ → Claim → Bool
+mayBegin k (Leas v n) = true
+mayBegin k (Most v n) = true
+mayBegin k (Strp s) = true
+mayBegin k (Turn r) = eqb k 0
+
+-- a claim may stand after the last of some, with k lines before it
+abbrev pub mayFollowAll : ℕ → List Claim → Claim → Bool
+mayFollowAll k [] c = mayBegin k c
+mayFollowAll k (b ∷ []) c = mayFollow b c
+mayFollowAll k (a ∷ (b ∷ bs)) c = mayFollowAll k (b ∷ bs) c
 
 -- the number of stripes among some claims
 abbrev pub stripesAmong : List Claim → ℕ
@@ -50,10 +64,11 @@ stripesAmong [] = 0
 stripesAmong (Leas v n ∷ cs) = stripesAmong cs
 stripesAmong (Most v n ∷ cs) = stripesAmong cs
 stripesAmong (Strp s ∷ cs) = stripesAmong cs + 1
+stripesAmong (Turn r ∷ cs) = stripesAmong cs
 
--- 6: a claim stands in order after those before it, and is no ninth stripe
-abbrev pub inOrder : List Claim → Claim → Bool
-inOrder cs c = mayFollowAll cs c && leb (stripesAmong (c ∷ cs)) greatestStripes
+-- 6: a claim with k lines before it stands in order after those of its point, and is no ninth stripe
+abbrev pub inOrder : ℕ → List Claim → Claim → Bool
+inOrder k cs c = mayFollowAll k cs c && leb (stripesAmong (c ∷ cs)) greatestStripes
 
 -- what is read so far: the points, and the claims since the last of them; or the first refusal
 pub data Reading : Type 0 where
@@ -64,7 +79,7 @@ pub data Reading : Type 0 where
 abbrev pub afterLine : Reading → ℕ → Line → Reading
 afterLine (refusedReading r) k l = refusedReading r
 afterLine (going ps cs) k (refusedLine r) = refusedReading r
-afterLine (going ps cs) k (claimLine c) = cond (inOrder cs c) (going ps (cs ++ (c ∷ []))) (refusedReading (ClaimOrder (k + 1)))
+afterLine (going ps cs) k (claimLine c) = cond (inOrder k cs c) (going ps (cs ++ (c ∷ []))) (refusedReading (ClaimOrder (k + 1)))
 afterLine (going ps cs) k (instructionLine i) = going (ps ++ (record { line = k + 1; claims = cs; instruction = i } ∷ [])) []
 
 -- the first n lines

@@ -3,6 +3,7 @@ use Prim.Native.Nat.{ℕ, zero, suc, _+_}
 use mathlib.Core.Bool.{Bool, true, false, _&&_, _||_, cond}
 use mathlib.Core.List.{List, [], _∷_}
 use lib.ListN.{set}
+use lib.Dec.{eqb}
 
 -- every number below the count passes
 unfoldable pub everyBelow : (ℕ → Bool) → ℕ → Bool
@@ -39,3 +40,7 @@ module _ {A : Type 0} where
   abbrev pub isEmpty : List A → Bool
   isEmpty [] = true
   isEmpty (x ∷ xs) = false
+
+-- the number is one of the list
+abbrev pub among : ℕ → List ℕ → Bool
+among n l = some (eqb n) l

@@ -6,7 +6,7 @@ pub use Rattle.model.specs.declared.text.Shape.the-variants.{Spaces, Zer
 pub use Rattle.model.specs.declared.text.Field.{Field}
 pub use Rattle.model.specs.declared.text.Field.the-variants.{Blank, Number, Negative, Misshapen}
 pub use Rattle.model.specs.declared.text.Word.{Word}
-pub use Rattle.model.specs.declared.text.Word.the-variants.{Stop as STOP, Setc as SETC, Copy as COPY, Addw as ADDW, Subw as SUBW, Mulw as MULW, Divf as DIVF, Load as LOAD, Stor as STOR, Jump as JUMP, Bltu as BLTU, Bequ as BEQU, Leas as LEAS, Most as MOST, Strp as STRP, Divm as DIVM}
+pub use Rattle.model.specs.declared.text.Word.the-variants.{Stop as STOP, Setc as SETC, Copy as COPY, Addw as ADDW, Subw as SUBW, Mulw as MULW, Divf as DIVF, Load as LOAD, Stor as STOR, Jump as JUMP, Bltu as BLTU, Bequ as BEQU, Leas as LEAS, Most as MOST, Strp as STRP, Divm as DIVM, Turn as TURN}
 pub use Rattle.model.specs.declared.text.FoundWord.{FoundWord}
 pub use Rattle.model.specs.declared.text.FoundWord.the-variants.{Unknown, Known}
 pub use Rattle.model.specs.declared.text.Content.{Content}
@@ -27,15 +27,17 @@ pub use Rattle.model.specs.declared.machine.State.{State}
 pub use Rattle.model.specs.declared.claims.Range.{Range}
 pub use Rattle.model.specs.declared.claims.Stripe.{Stripe}
 pub use Rattle.model.specs.declared.claims.Claim.{Claim}
-pub use Rattle.model.specs.declared.claims.Claim.the-variants.{Leas, Most, Strp}
+pub use Rattle.model.specs.declared.claims.Claim.the-variants.{Leas, Most, Strp, Turn}
 pub use Rattle.model.specs.declared.claims.Line.{Line}
 pub use Rattle.model.specs.declared.claims.Line.the-variants.{Refused as refusedLine, Claim as claimLine, Instruction as instructionLine}
 pub use Rattle.model.specs.declared.answers.Refusal.{Refusal}
-pub use Rattle.model.specs.declared.answers.Refusal.the-variants.{ListingLength, LineBytes, UnknownWord, FieldShape, NumberLimits, ClaimOrder, LastLineClaim, TooManyPoints, NoSuchTarget, NoEnd, EmptyStart, DivisorMayBeZero, AccessMayLeave, ClaimMayFail, TableLength, NoSuchPoint, ClaimsNotMet, NoRoom, SameRegister}
+pub use Rattle.model.specs.declared.answers.Refusal.the-variants.{ListingLength, LineBytes, UnknownWord, FieldShape, NumberLimits, ClaimOrder, LastLineClaim, TooManyPoints, NoSuchTarget, NoEnd, EmptyStart, DivisorMayBeZero, AccessMayLeave, ClaimMayFail, TableLength, NoSuchPoint, ClaimsNotMet, NoRoom, SameRegister, UncoveredEdge}
 pub use Rattle.model.specs.declared.answers.Judgement.{Judgement}
 pub use Rattle.model.specs.declared.answers.Judgement.the-variants.{Accepted, Refused as refused}
 pub use Rattle.model.specs.declared.answers.Verdict.{Verdict}
 pub use Rattle.model.specs.declared.answers.Verdict.the-variants.{Passed, Refused as refusedVerdict}
+pub use Rattle.model.specs.declared.answers.StepBound.{StepBound}
+pub use Rattle.model.specs.declared.answers.StepBound.the-variants.{Bounded, Refused as refusedBound}
 pub use Rattle.model.specs.declared.answers.ClaimPart.{ClaimPart}
 pub use Rattle.model.specs.declared.answers.Report.{Report}
 pub use Rattle.model.specs.declared.answers.Report.the-variants.{Stopped, Paused, Refused as refusedRun}

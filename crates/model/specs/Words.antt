@@ -1,4 +1,4 @@
--- Document 01, 'The machine' and 'Claims', with document 02's word DIVM: the words, what each asks of its six fields, and the limits of what the fields hold.
+-- Document 01, 'The machine' and 'Claims', with document 02's words DIVM and TURN: the words, what each asks of its six fields, and the limits of what the fields hold.
 -- A field's kind says which shapes it takes; its content says what its number stands for, and so its limits.
 -- Two contents depend on another field: an operand's F6 on F5, and the number of LEAS and MOST on F1.
 use Prim.Native.Nat.{ℕ}
@@ -8,7 +8,7 @@ use mathlib.Core.Bool.{Bool, true, false, not, _&&_, _||_, cond}
 use mathlib.Core.List.{List, [], _∷_}
 use lib.ListN.{getD}
 use lib.Dec.{leb, ltb, eqb}
-use Rattle.model.specs.Types.{Field, Blank, Number, Negative, Misshapen, Word, STOP, SETC, COPY, ADDW, SUBW, MULW, DIVF, LOAD, STOR, JUMP, BLTU, BEQU, LEAS, MOST, STRP, DIVM, FoundWord, Unknown, Known, Content, aRegister, aVariable, aTarget, aWidth, aTable, aScale, anOffset, aNumber, aChoice, anOperand, aClaimed, aBound, Kind, empty, plain, optional, signed}
+use Rattle.model.specs.Types.{Field, Blank, Number, Negative, Misshapen, Word, STOP, SETC, COPY, ADDW, SUBW, MULW, DIVF, LOAD, STOR, JUMP, BLTU, BEQU, LEAS, MOST, STRP, DIVM, TURN, FoundWord, Unknown, Known, Content, aRegister, aVariable, aTarget, aWidth, aTable, aScale, anOffset, aNumber, aChoice, anOperand, aClaimed, aBound, Kind, empty, plain, optional, signed}
 use Rattle.model.specs.Limits.{registers, tables, variables, MAX, greatestSize, greatestScale, greatestOffset, greatestBound, greatestPoints}
 use Rattle.model.specs.Text.{valueIn}
 
@@ -35,11 +35,12 @@ textOf LEAS = bytes "LEAS"
 textOf MOST = bytes "MOST"
 textOf STRP = bytes "STRP"
 textOf DIVM = bytes "DIVM"
+textOf TURN = bytes "TURN"
 
 -- all words
 abbrev pub words : List Word
 words =
-    STOP ∷ SETC ∷ COPY ∷ ADDW ∷ SUBW ∷ MULW ∷ DIVF ∷ LOAD ∷ STOR ∷ JUMP ∷ BLTU ∷ BEQU ∷ LEAS ∷ MOST ∷ STRP ∷ DIVM ∷ []
+    STOP ∷ SETC ∷ COPY ∷ ADDW ∷ SUBW ∷ MULW ∷ DIVF ∷ LOAD ∷ STOR ∷ JUMP ∷ BLTU ∷ BEQU ∷ LEAS ∷ MOST ∷ STRP ∷ DIVM ∷ TURN ∷ []
 
 -- the line begins with the four bytes
 unfoldable pub begins : List ℕ → List ℕ → Bool
@@ -82,6 +83,7 @@ fieldsOf LEAS = row var empty empty empty empty (plain aClaimed)
 fieldsOf MOST = row var empty empty empty empty (plain aClaimed)
 fieldsOf STRP = row var (plain aScale) var (optional aVariable) empty (signed aBound)
 fieldsOf DIVM = row reg var reg empty (plain aChoice) (plain anOperand)
+fieldsOf TURN = row reg empty empty empty empty empty
 
 -- which fields are in shape for a kind; a minus never stands on 0
 unfoldable pub shaped : Kind → Field → Bool

@@ -3,7 +3,7 @@ use crate::machine::State;
 ghost use mathlib.Core.Path.{_≡_};
 ghost use Rattle.model.specs.Answers.{isRefused};
 
-// Why a listing, a state or a call is turned back: a case for each number from 1 to 19, in their order, with the lines that it names.
+// Why a listing, a state or a call is turned back: a case for each number from 1 to 20, in their order, with the lines that it names.
 pub enum Refusal {
     ListingLength,
     LineBytes { line: usize },
@@ -24,6 +24,7 @@ pub enum Refusal {
     ClaimsNotMet,
     NoRoom,
     SameRegister { line: usize },
+    UncoveredEdge { line: usize },
 }
 
 // Whether something is turned back.
@@ -45,6 +46,12 @@ pub fn is_refused(j: Judgement) -> bool
 // The checker's answer: the number of points of a passed listing, or the refusal.
 pub enum Verdict {
     Passed { points: usize },
+    Refused(Refusal),
+}
+
+// The answer for the steps that a listing needs: a bound of a passed listing, or the refusal.
+pub enum StepBound {
+    Bounded { steps: u64 },
     Refused(Refusal),
 }
 

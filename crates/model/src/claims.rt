@@ -67,11 +67,12 @@ pub struct Stripe {
     pub minus: u64,
 }
 
-// A claim as a line writes it.
+// A claim as a line writes it. TURN names a register and claims nothing of it.
 pub enum Claim {
     Leas { v: usize, least: u64 },
     Most { v: usize, most: u64 },
     Strp(Stripe),
+    Turn { register: usize },
 }
 
 // A line of a listing as it is read.

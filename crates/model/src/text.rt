@@ -35,6 +35,7 @@ pub enum Word {
     Most,
     Strp,
     Divm,
+    Turn,
 }
 
 // The word of a line, where its four bytes are one.
