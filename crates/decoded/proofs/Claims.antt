@@ -8,11 +8,11 @@ use native.Mathlib.Numerals.{add-one}
 use lib.ListN.{length, length-append}
 use lib.Dec.{eqb}
 use Rattle.model.specs.declared.claims.Claim.{Claim}
-use Rattle.model.specs.declared.claims.Claim.the-variants.{Leas, Most, Strp}
+use Rattle.model.specs.declared.claims.Claim.the-variants.{Leas, Most, Strp, Turn}
 use Rattle.model.specs.declared.claims.Line.the-variants.{Refused as refusedLine, Claim as claimLine, Instruction as instructionLine}
 use Rattle.model.specs.declared.answers.Refusal.the-variants.{ListingLength}
 use Rattle.decoded.specs.declared.rows.Row.{Row}
-use Rattle.decoded.specs.Kinds.{REFUSED, LEAS, MOST, STRP}
+use Rattle.decoded.specs.Kinds.{REFUSED, LEAS, MOST, STRP, TURN}
 use Rattle.decoded.specs.Rows.{rowAt, withRow}
 use Rattle.decoded.specs.Decoded.{instructionFrom, stripeFrom, claimFrom, claimsFrom, lineOfRow}
 use Rattle.decoded.proofs.WrittenRows.{row-other}
@@ -20,16 +20,17 @@ use Rattle.decoded.proofs.WrittenRows.{row-other}
 -- where a row holds a claim, it is this one
 pub claim-held : (r : Row) (x : Claim) → lineOfRow r ≡ claimLine x → claimFrom r ≡ x
 unfolding lineOfRow claimFrom
-claim-held r x e = go (eqb (r .kind) STRP) (eqb (r .kind) LEAS) (eqb (r .kind) MOST) (eqb (r .kind) REFUSED) e
+claim-held r x e = go (eqb (r .kind) STRP) (eqb (r .kind) LEAS) (eqb (r .kind) MOST) (eqb (r .kind) REFUSED) (eqb (r .kind) TURN) e
   where
-    go : (a b c d : Bool)
-        → cond a (claimLine (Strp (stripeFrom r))) (cond b (claimLine (Leas (r .first) (r .sixth))) (cond c (claimLine (Most (r .first) (r .sixth))) (cond d (refusedLine ListingLength) (instructionLine (instructionFrom r))))) ≡ claimLine x
-        → cond a (Strp (stripeFrom r)) (cond b (Leas (r .first) (r .sixth)) (Most (r .first) (r .sixth))) ≡ x
-    go true b c d h = cc
-    go false true c d h = cc
-    go false false true d h = cc
-    go false false false true h = let z : _≡_ {A = ℕ} 0 1 = cc in absurd (omega arith)
-    go false false false false h = let z : _≡_ {A = ℕ} 0 1 = cc in absurd (omega arith)
+    go : (a b c d t : Bool)
+        → cond a (claimLine (Strp (stripeFrom r))) (cond b (claimLine (Leas (r .first) (r .sixth))) (cond c (claimLine (Most (r .first) (r .sixth))) (cond d (refusedLine ListingLength) (cond t (claimLine (Turn (r .first))) (instructionLine (instructionFrom r)))))) ≡ claimLine x
+        → cond a (Strp (stripeFrom r)) (cond b (Leas (r .first) (r .sixth)) (cond c (Most (r .first) (r .sixth)) (Turn (r .first)))) ≡ x
+    go true b c d t h = cc
+    go false true c d t h = cc
+    go false false true d t h = cc
+    go false false false true t h = let z : _≡_ {A = ℕ} 0 1 = cc in absurd (omega arith)
+    go false false false false true h = cc
+    go false false false false false h = let z : _≡_ {A = ℕ} 0 1 = cc in absurd (omega arith)
 
 module _ (rows : List ℕ) (from : ℕ) where
   pub claims-none : claimsFrom rows from 0 ≡ []

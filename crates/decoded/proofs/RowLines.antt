@@ -9,7 +9,7 @@ use Rattle.model.specs.Limits as Limits
 use Rattle.model.specs.declared.text.Field.{Field}
 use Rattle.model.specs.declared.text.Field.the-variants.{Blank, Number, Negative, Misshapen}
 use Rattle.model.specs.declared.text.Word.{Word}
-use Rattle.model.specs.declared.text.Word.the-variants.{Stop as STOP, Setc as SETC, Copy as COPY, Addw as ADDW, Subw as SUBW, Mulw as MULW, Divf as DIVF, Load as LOAD, Stor as STOR, Jump as JUMP, Bltu as BLTU, Bequ as BEQU, Leas as LEAS, Most as MOST, Strp as STRP, Divm as DIVM}
+use Rattle.model.specs.declared.text.Word.the-variants.{Stop as STOP, Setc as SETC, Copy as COPY, Addw as ADDW, Subw as SUBW, Mulw as MULW, Divf as DIVF, Load as LOAD, Stor as STOR, Jump as JUMP, Bltu as BLTU, Bequ as BEQU, Leas as LEAS, Most as MOST, Strp as STRP, Divm as DIVM, Turn as TURN}
 use Rattle.model.specs.declared.text.Content.{Content}
 use Rattle.model.specs.declared.text.Content.the-variants.{Target, Scale, Offset, Number as aNumber, Operand as anOperand, Claimed}
 use Rattle.model.specs.declared.text.Kind.{Kind}
@@ -17,7 +17,7 @@ use Rattle.model.specs.declared.text.Kind.the-variants.{Plain}
 use Rattle.model.specs.declared.machine.Operand.the-variants.{Variable as variable, Number as number}
 use Rattle.model.specs.declared.machine.Instruction.{Instruction}
 use Rattle.model.specs.declared.machine.Instruction.the-variants.{Setc, Addw, Subw, Mulw, Divf, Jump, Divm}
-use Rattle.model.specs.declared.claims.Claim.the-variants.{Leas, Most, Strp}
+use Rattle.model.specs.declared.claims.Claim.the-variants.{Leas, Most, Strp, Turn}
 use Rattle.model.specs.declared.claims.Line.the-variants.{Refused as refusedLine, Claim as claimLine, Instruction as instructionLine}
 use Rattle.model.specs.declared.answers.Refusal.the-variants.{ListingLength}
 use Rattle.model.specs.Limits.{MAX}
@@ -98,6 +98,7 @@ module _ (fs : List Field) where
       let z = h .z in
       rw (byte-same (F1 fs) (omega arith), byte-same (F2 fs) (h .scale), byte-same (F3 fs) (omega arith), byte-same (variableOrBlank (fieldAt fs 3)) (omega arith)) refl
   line-same DIVM s l d = ap (λ (o : _). instructionLine (Divm (F1 fs) (F2 fs) (F3 fs) o)) (operand-is DIVM s refl (line-limited fs DIVM l d .arithmetic .operand))
+  line-same TURN s l d = refl
 
 -- the row of a line that is turned back
 pub refused-same : lineOfRow refusedRow ≡ refusedLine ListingLength
@@ -107,13 +108,14 @@ refused-same = refl
 -- where a row holds an instruction, it is this one
 pub instruction-held : (r : Row) (i : Instruction) → lineOfRow r ≡ instructionLine i → instructionFrom r ≡ i
 unfolding lineOfRow
-instruction-held r i e = go (eqb (r .kind) Kinds.STRP) (eqb (r .kind) Kinds.LEAS) (eqb (r .kind) Kinds.MOST) (eqb (r .kind) Kinds.REFUSED) e
+instruction-held r i e = go (eqb (r .kind) Kinds.STRP) (eqb (r .kind) Kinds.LEAS) (eqb (r .kind) Kinds.MOST) (eqb (r .kind) Kinds.REFUSED) (eqb (r .kind) Kinds.TURN) e
   where
-    go : (a b c d : Bool)
-        → cond a (claimLine (Strp (stripeFrom r))) (cond b (claimLine (Leas (r .first) (r .sixth))) (cond c (claimLine (Most (r .first) (r .sixth))) (cond d (refusedLine ListingLength) (instructionLine (instructionFrom r))))) ≡ instructionLine i
+    go : (a b c d t : Bool)
+        → cond a (claimLine (Strp (stripeFrom r))) (cond b (claimLine (Leas (r .first) (r .sixth))) (cond c (claimLine (Most (r .first) (r .sixth))) (cond d (refusedLine ListingLength) (cond t (claimLine (Turn (r .first))) (instructionLine (instructionFrom r)))))) ≡ instructionLine i
         → instructionFrom r ≡ i
-    go true b c d h = let z : _≡_ {A = ℕ} 0 1 = cc in absurd (omega arith)
-    go false true c d h = let z : _≡_ {A = ℕ} 0 1 = cc in absurd (omega arith)
-    go false false true d h = let z : _≡_ {A = ℕ} 0 1 = cc in absurd (omega arith)
-    go false false false true h = let z : _≡_ {A = ℕ} 0 1 = cc in absurd (omega arith)
-    go false false false false h = cc
+    go true b c d t h = let z : _≡_ {A = ℕ} 0 1 = cc in absurd (omega arith)
+    go false true c d t h = let z : _≡_ {A = ℕ} 0 1 = cc in absurd (omega arith)
+    go false false true d t h = let z : _≡_ {A = ℕ} 0 1 = cc in absurd (omega arith)
+    go false false false true t h = let z : _≡_ {A = ℕ} 0 1 = cc in absurd (omega arith)
+    go false false false false true h = let z : _≡_ {A = ℕ} 0 1 = cc in absurd (omega arith)
+    go false false false false false h = cc

@@ -10,14 +10,14 @@ use Rattle.model.specs.declared.machine.Instruction.{Instruction}
 use Rattle.model.specs.declared.machine.Instruction.the-variants.{Stop, Setc, Copy, Addw, Subw, Mulw, Divf, Load, Stor, Jump, Bltu, Bequ, Divm}
 use Rattle.model.specs.declared.claims.Stripe.{Stripe}
 use Rattle.model.specs.declared.claims.Claim.{Claim}
-use Rattle.model.specs.declared.claims.Claim.the-variants.{Leas, Most, Strp}
+use Rattle.model.specs.declared.claims.Claim.the-variants.{Leas, Most, Strp, Turn}
 use Rattle.model.specs.declared.claims.Line.{Line}
 use Rattle.model.specs.declared.claims.Line.the-variants.{Refused as refusedLine, Claim as claimLine, Instruction as instructionLine}
 use Rattle.model.specs.declared.answers.Refusal.the-variants.{ListingLength}
 use Rattle.model.specs.Lines.{widthFrom, tableFrom}
 use Rattle.decoded.specs.declared.rows.Row.{Row}
 use Rattle.decoded.specs.Rows.{rowAt}
-use Rattle.decoded.specs.Kinds.{REFUSED, STOP, SETC, COPY, ADDW, SUBW, MULW, DIVF, LOAD, STOR, JUMP, BLTU, LEAS, MOST, STRP, DIVM}
+use Rattle.decoded.specs.Kinds.{REFUSED, STOP, SETC, COPY, ADDW, SUBW, MULW, DIVF, LOAD, STOR, JUMP, BLTU, LEAS, MOST, STRP, DIVM, TURN}
 
 -- the operand of a choice and a number
 abbrev pub operandIn : ℕ → ℕ → Operand
@@ -61,7 +61,9 @@ stripeFrom r = record { x = r .first % 256; a = r .second % 256; y = r .third % 
 
 -- the claim of a row that holds one
 unfoldable pub claimFrom : Row → Claim
-claimFrom r = cond (eqb (r .kind) STRP) (Strp (stripeFrom r)) (cond (eqb (r .kind) LEAS) (Leas (r .first) (r .sixth)) (Most (r .first) (r .sixth)))
+claimFrom r =
+    cond (eqb (r .kind) STRP) (Strp (stripeFrom r))
+    (cond (eqb (r .kind) LEAS) (Leas (r .first) (r .sixth)) (cond (eqb (r .kind) MOST) (Most (r .first) (r .sixth)) (Turn (r .first))))
 
 -- the claims of n rows from row from on
 unfoldable pub claimsFrom : List ℕ → ℕ → ℕ → List Claim
@@ -75,7 +77,8 @@ lineOfRow r =
     cond (eqb (r .kind) STRP) (claimLine (Strp (stripeFrom r)))
     (cond (eqb (r .kind) LEAS) (claimLine (Leas (r .first) (r .sixth)))
     (cond (eqb (r .kind) MOST) (claimLine (Most (r .first) (r .sixth)))
-    (cond (eqb (r .kind) REFUSED) (refusedLine ListingLength) (instructionLine (instructionFrom r)))))
+    (cond (eqb (r .kind) REFUSED) (refusedLine ListingLength)
+    (cond (eqb (r .kind) TURN) (claimLine (Turn (r .first))) (instructionLine (instructionFrom r))))))
 
 -- what a row keeps of a line: all but why it was turned back
 abbrev pub kept : Line → Line

@@ -3,11 +3,11 @@ use Prim.Native.Nat.{ℕ}
 use mathlib.Core.List.{List}
 use Rattle.model.specs.declared.text.Field.{Field}
 use Rattle.model.specs.declared.text.Word.{Word}
-use Rattle.model.specs.declared.text.Word.the-variants.{Stop, Setc, Copy, Addw, Subw, Mulw, Divf, Load, Stor, Jump, Bltu, Bequ, Leas, Most, Strp, Divm}
+use Rattle.model.specs.declared.text.Word.the-variants.{Stop, Setc, Copy, Addw, Subw, Mulw, Divf, Load, Stor, Jump, Bltu, Bequ, Leas, Most, Strp, Divm, Turn}
 use Rattle.model.specs.Lines.{fieldAt, F1, F2, F3, F5, variableOrBlank, plusIn, minusIn}
 use Rattle.decoded.specs.declared.rows.Row.{Row}
 use Rattle.decoded.specs.Rows.{numbers}
-use Rattle.decoded.specs.Kinds.{REFUSED, STOP, SETC, COPY, ADDW, SUBW, MULW, DIVF, LOAD, STOR, JUMP, BLTU, BEQU, LEAS, MOST, STRP, DIVM}
+use Rattle.decoded.specs.Kinds.{REFUSED, STOP, SETC, COPY, ADDW, SUBW, MULW, DIVF, LOAD, STOR, JUMP, BLTU, BEQU, LEAS, MOST, STRP, DIVM, TURN}
 
 -- the kind of row that a word has
 abbrev pub kindOf : Word → ℕ
@@ -27,6 +27,7 @@ kindOf Leas = LEAS
 kindOf Most = MOST
 kindOf Strp = STRP
 kindOf Divm = DIVM
+kindOf Turn = TURN
 
 -- the row of a word whose fields are accepted
 abbrev pub rowOf : Word → List Field → Row

@@ -68,3 +68,7 @@ STRP = 15
 -- a line of the word DIVM
 abbrev pub DIVM : ℕ
 DIVM = 16
+
+-- a line of the word TURN
+abbrev pub TURN : ℕ
+TURN = 17

@@ -7,6 +7,7 @@ use crate::kinds::DIVM;
 use crate::kinds::JUMP;
 use crate::kinds::LEAS;
 use crate::kinds::LOAD;
+use crate::kinds::MOST;
 use crate::kinds::MULW;
 use crate::kinds::SETC;
 use crate::kinds::STOP;
@@ -219,7 +220,10 @@ pub fn claim_at(rows: &[u64], k: usize) -> Claim
     if kind == LEAS {
         return Claim::Leas { v, least: bound };
     }
-    Claim::Most { v, most: bound }
+    if kind == MOST {
+        return Claim::Most { v, most: bound };
+    }
+    Claim::Turn { register: v }
 }
 
 // Whether the instruction of a row names a target: every kind but these does, in F4.

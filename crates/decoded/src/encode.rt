@@ -16,6 +16,7 @@ use crate::kinds::STOP;
 use crate::kinds::STOR;
 use crate::kinds::STRP;
 use crate::kinds::SUBW;
+use crate::kinds::TURN;
 use crate::rows::Row;
 use columns::field::BLANK;
 use columns::field::KeptFields;
@@ -56,6 +57,7 @@ fn kind_of(w: Word) -> u64
         Word::Most => MOST,
         Word::Strp => STRP,
         Word::Divm => DIVM,
+        Word::Turn => TURN,
     }
 }
 

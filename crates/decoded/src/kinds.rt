@@ -32,3 +32,5 @@ pub const MOST: u64 = 14;
 pub const STRP: u64 = 15;
 
 pub const DIVM: u64 = 16;
+
+pub const TURN: u64 = 17;

@@ -41,7 +41,7 @@ pub fn unclaimed<'a>(low: &'a mut [u64; VARIABLES], high: &'a mut [u64; VARIABLE
     high[RESULTS_SIZE] = size.hi;
 }
 
-// One claim more: a new end, or a stripe after the first n stripes. The answer is how many stripes there are then.
+// One claim more: a new end, a stripe after the first n stripes, or TURN, which claims nothing. The answer is how many stripes there are then.
 pub fn with_claim<'a>(
     low: &'a mut [u64; VARIABLES],
     high: &'a mut [u64; VARIABLES],
@@ -69,6 +69,7 @@ pub fn with_claim<'a>(
             write_stripe(stripes, n, s);
             n + 1
         }
+        Claim::Turn { register: _ } => n,
     }
 }
 

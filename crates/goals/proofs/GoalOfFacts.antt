@@ -7,7 +7,7 @@ use native.Mathlib.Omega.{arith}
 use lib.Dec.{leb}
 use Rattle.model.specs.declared.claims.Stripe.{Stripe}
 use Rattle.model.specs.declared.claims.Claim.{Claim}
-use Rattle.model.specs.declared.claims.Claim.the-variants.{Leas, Most, Strp}
+use Rattle.model.specs.declared.claims.Claim.the-variants.{Leas, Most, Strp, Turn}
 use Rattle.model.specs.Limits.{greatestLinks}
 use Rattle.model.specs.Lists.{some}
 use Rattle.model.specs.Facts.{Facts, lo, hi}
@@ -68,6 +68,10 @@ module _ (f : Facts) (c : Claim) where
   pub stripe-agrees : (g : Stripe) → c ≡ Strp g → known.follows f greatestLinks g ≡ claimFollows f c
   unfolding claimFollows
   stripe-agrees g e = rw e refl
+
+  pub turn-agrees : (r : ℕ) → c ≡ Turn r → true ≡ claimFollows f c
+  unfolding claimFollows
+  turn-agrees r e = rw e refl
 
 -- the goal of a claim within its limits is small
 pub small-goal : (c : Claim) (g : Stripe) → c ≡ Strp g → ClaimLimited c → Small g

@@ -279,5 +279,6 @@ pub fn claim_follows<'a>(
         Claim::Leas { v, least } => least <= end_of(low, v),
         Claim::Most { v, most } => end_of(high, v) <= most,
         Claim::Strp(g) => goal_follows(low, high, stripes, count, g),
+        Claim::Turn { register: _ } => true,
     }
 }

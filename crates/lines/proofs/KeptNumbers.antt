@@ -11,7 +11,7 @@ use Rattle.model.specs.declared.text.Field.the-variants.{Blank, Number, Negativ
 use Rattle.model.specs.declared.text.Kind.{Kind}
 use Rattle.model.specs.declared.text.Kind.the-variants.{Empty, Plain, Optional, Signed}
 use Rattle.model.specs.declared.text.Word.{Word}
-use Rattle.model.specs.declared.text.Word.the-variants.{Stop, Setc, Copy, Addw, Subw, Mulw, Divf, Load, Stor, Jump, Bltu, Bequ, Leas, Most, Strp, Divm}
+use Rattle.model.specs.declared.text.Word.the-variants.{Stop, Setc, Copy, Addw, Subw, Mulw, Divf, Load, Stor, Jump, Bltu, Bequ, Leas, Most, Strp, Divm, Turn}
 use Rattle.model.specs.Lists.{everyBelow}
 use Rattle.model.specs.Text.{valueIn}
 use Rattle.model.specs.Words.{fieldsOf, shaped}
@@ -45,6 +45,7 @@ unsigned-kinds Leas = refl
 unsigned-kinds Most = refl
 unsigned-kinds Strp = refl
 unsigned-kinds Divm = refl
+unsigned-kinds Turn = refl
 
 -- a field in shape for such a kind is blank or a number
 pub blank-or-number : (P : Field → Type 0) (k : Kind) (f : Field) → unsigned k ≡ true → shaped k f ≡ true → P Blank → ((v : ℕ) → P (Number v)) → P f

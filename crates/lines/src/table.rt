@@ -139,5 +139,11 @@ pub(crate) fn judge_known(place: usize, w: Word, x: KeptFields) -> Judgement
             row(reg(a), var(b), reg(c), empty(), choice(e), operand(f, e)),
             a != c,
         ),
+        Word::Turn => judge_row(
+            place,
+            s,
+            row(reg(a), empty(), empty(), empty(), empty(), empty()),
+            true,
+        ),
     }
 }

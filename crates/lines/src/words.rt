@@ -40,6 +40,8 @@ const STRP: [u8; 4] = *b"STRP";
 
 const DIVM: [u8; 4] = *b"DIVM";
 
+const TURN: [u8; 4] = *b"TURN";
+
 // The four bytes of a word.
 pub fn text(w: Word) -> [u8; 4]
     ensures { λ r. ⌜ r ≡ textOf w ⌝ }
@@ -61,6 +63,7 @@ pub fn text(w: Word) -> [u8; 4]
         Word::Most => MOST,
         Word::Strp => STRP,
         Word::Divm => DIVM,
+        Word::Turn => TURN,
     }
 }
 
@@ -157,6 +160,9 @@ fn find_claim(l: &[u8]) -> FoundWord
     }
     if begins_with(l, Word::Divm) {
         return FoundWord::Known(Word::Divm);
+    }
+    if begins_with(l, Word::Turn) {
+        return FoundWord::Known(Word::Turn);
     }
     FoundWord::Unknown
 }

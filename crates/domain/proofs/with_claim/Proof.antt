@@ -63,6 +63,12 @@ returns-3 c =
     let sized = standing-sized (a .stripes .now) (a .n) (start .pre .0 .stripes) in
     (rw (told .1, wrote, stripes-written (a .stripes .now) (a .n) s sized (omega arith)), (rw wrote (point-row (a .low .now) (a .high .now) (a .stripes .now) (a .n) (start .pre .0) s h (omega arith)), rw (told .1) (omega arith)))
 
+returns-4 : tie.Need-returns-4
+returns-4 c =
+    let start = c .before .before in
+    let told = c .enum-told .given in
+    (rw (told .1), (start .pre .0, rw (told .1) (omega arith)))
+
 pub with-claim-spec : {M : Type 1} → statement M
 with-claim-spec =
     tie.close
@@ -76,6 +82,8 @@ with-claim-spec =
     (λ c. search needs)
     write-stripe-requires
     (λ c. search needs)
+    (λ c. search needs)
     returns
     returns-2
-    returns-3)
+    returns-3
+    returns-4)

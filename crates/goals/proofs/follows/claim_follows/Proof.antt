@@ -1,6 +1,6 @@
 -- Each kind of claim by its own test. Assumes nothing.
 use mathlib.Core.Path.{_∙_}
-use Rattle.goals.proofs.GoalOfFacts.{leas-agrees, most-agrees, stripe-agrees, small-goal}
+use Rattle.goals.proofs.GoalOfFacts.{leas-agrees, most-agrees, stripe-agrees, turn-agrees, small-goal}
 use borrow.Author.Needs.{needs}
 use Rattle.goals.proofs.follows.claim_follows.Statement.{statement}
 use Rattle.goals.proofs.follows.claim_follows.Tie as tie
@@ -25,6 +25,9 @@ returns-3 c f laid =
     let told = c .before .before .c3 .given in
     c .goal-follows .ensures f laid ∙ stripe-agrees f (c .before .before .before .before .args .c) (told .0 .0) (told .1)
 
+returns-4 : tie.Need-returns-4
+returns-4 c f laid = turn-agrees f (c .before .before .args .c) (c .enum-told .given .0 .0) (c .enum-told .given .1)
+
 pub claim-follows-spec : {M : Type 1} → statement M
 claim-follows-spec =
     tie.close
@@ -35,6 +38,8 @@ claim-follows-spec =
     (λ c κs. search needs)
     (λ c. search needs)
     goal-follows-requires
+    (λ c. search needs)
     returns
     returns-2
-    returns-3)
+    returns-3
+    returns-4)

@@ -7,7 +7,7 @@ use lib.Dec.{eqb}
 use borrow.Author.Needs.{needs}
 use Rattle.model.specs.declared.text.Content.the-variants.{Variable, Bound}
 use Rattle.model.specs.declared.text.Kind.the-variants.{Optional, Signed}
-use Rattle.model.specs.declared.text.Word.the-variants.{Stop, Setc, Copy, Addw, Subw, Mulw, Divf, Load, Stor, Jump, Bltu, Bequ, Leas, Most, Strp, Divm}
+use Rattle.model.specs.declared.text.Word.the-variants.{Stop, Setc, Copy, Addw, Subw, Mulw, Divf, Load, Stor, Jump, Bltu, Bequ, Leas, Most, Strp, Divm, Turn}
 use Rattle.model.specs.Words.{fieldsOf}
 use Rattle.model.specs.Lines.{registersDiffer}
 use Rattle.columns.specs.Kept.{sideBySide}
@@ -181,6 +181,21 @@ returns-11 c fs e =
       answer = c .judge-row11 .ensures;
     })
 
+returns-12 : tie.Need-returns-12
+unfolding fieldsOf registersDiffer
+returns-12 c fs e =
+    row-known _ fs Turn [] refl (c .before .before .before .before .before .before .before .before .before .before .args .w) (c .before .before .before .before .before .before .before .before .before .match .keys12) (c .before .before .before .before .before .before .before .before .before .before .args .x) e true (λ s. none-written-twice Turn [] fs refl (c .before .before .before .before .before .before .before .before .before .before .args .w) (c .before .before .before .before .before .before .before .before .before .match .keys12))
+    (record {
+      first = λ f1 f5 s. c .before .before .before .before .before .before .before .reg7 .ensures f1 f5 s;
+      second = λ f1 f5 s. c .before .before .before .before .before .before .empty31 .ensures f1 f5 _;
+      third = λ f1 f5 s. c .before .before .before .before .before .empty32 .ensures f1 f5 _;
+      fourth = λ f1 f5. c .before .before .before .before .empty33 .ensures f1 f5 _;
+      fifth = λ f1 f5 s. c .before .before .before .empty34 .ensures f1 f5 _;
+      sixth = c .before .before .empty35 .ensures _ _ _;
+      made = c .before .row12 .ensures;
+      answer = c .judge-row12 .ensures;
+    })
+
 pub judge-known-spec : {M : Type 1} → statement M
 judge-known-spec =
     tie.close
@@ -283,6 +298,15 @@ judge-known-spec =
     (λ c κs. search needs)
     (λ c κs. search needs)
     (λ c κs. search needs)
+    (λ c. search needs)
+    (λ c κs. search needs)
+    (λ c κs. search needs)
+    (λ c κs. search needs)
+    (λ c κs. search needs)
+    (λ c κs. search needs)
+    (λ c κs. search needs)
+    (λ c κs. search needs)
+    (λ c κs. search needs)
     returns
     returns-2
     returns-3
@@ -293,4 +317,5 @@ judge-known-spec =
     returns-8
     returns-9
     returns-10
-    returns-11)
+    returns-11
+    returns-12)

@@ -22,7 +22,11 @@ returns-4 c = simp (c .if4 .taken, ← c .before .begins-with4 .ensures, c .befo
 
 returns-5 : tie.Need-returns-5
 unfolding wordAmong
-returns-5 c = simp (c .if4 .left, ← c .before .begins-with4 .ensures, c .before .before .if3 .left, ← c .before .before .before .begins-with3 .ensures, c .before .before .before .before .if2 .left, ← c .before .before .before .before .before .begins-with2 .ensures, c .before .before .before .before .before .before .if1 .left, ← c .before .before .before .before .before .before .before .begins-with .ensures)
+returns-5 c = simp (c .if5 .taken, ← c .before .begins-with5 .ensures, c .before .before .if4 .left, ← c .before .before .before .begins-with4 .ensures, c .before .before .before .before .if3 .left, ← c .before .before .before .before .before .begins-with3 .ensures, c .before .before .before .before .before .before .if2 .left, ← c .before .before .before .before .before .before .before .begins-with2 .ensures, c .before .before .before .before .before .before .before .before .if1 .left, ← c .before .before .before .before .before .before .before .before .before .begins-with .ensures)
+
+returns-6 : tie.Need-returns-6
+unfolding wordAmong
+returns-6 c = simp (c .if5 .left, ← c .before .begins-with5 .ensures, c .before .before .if4 .left, ← c .before .before .before .begins-with4 .ensures, c .before .before .before .before .if3 .left, ← c .before .before .before .before .before .begins-with3 .ensures, c .before .before .before .before .before .before .if2 .left, ← c .before .before .before .before .before .before .before .begins-with2 .ensures, c .before .before .before .before .before .before .before .before .if1 .left, ← c .before .before .before .before .before .before .before .before .before .begins-with .ensures)
 
 pub find-claim-spec : {M : Type 1} → statement M
 find-claim-spec =
@@ -36,4 +40,6 @@ find-claim-spec =
     returns-3
     (λ c κs. search needs)
     returns-4
-    returns-5)
+    (λ c κs. search needs)
+    returns-5
+    returns-6)
