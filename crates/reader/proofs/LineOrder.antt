@@ -10,13 +10,13 @@ use lib.ListN.{length, length-append}
 use lib.Dec.{leb, ltb, eqb, eqb·suc-zero}
 use borrow.Author.Tests.{le-leb, lt-leb, lt-ltb, le-ltb}
 use Rattle.model.specs.declared.claims.Claim.{Claim}
-use Rattle.model.specs.declared.claims.Claim.the-variants.{Leas, Most, Strp}
+use Rattle.model.specs.declared.claims.Claim.the-variants.{Leas, Most, Strp, Turn}
 use Rattle.model.specs.declared.claims.Line.{Line}
 use Rattle.model.specs.declared.claims.Line.the-variants.{Refused as refusedLine, Claim as claimLine, Instruction as instructionLine}
 use Rattle.model.specs.declared.answers.Refusal.the-variants.{ClaimOrder}
 use Rattle.model.specs.Limits.{greatestStripes}
-use Rattle.model.specs.Listing.{Point, mayFollow, mayFollowAll, stripesAmong, inOrder, Reading, going, refusedReading, afterLine}
-use Rattle.reader.specs.Scan.{orderOf, lastOf, mayStand, stripesOf, sortOf, scanOf, progressOf, inOrderAfter, afterClaim, afterScan}
+use Rattle.model.specs.Listing.{Point, mayFollow, mayBegin, mayFollowAll, stripesAmong, inOrder, Reading, going, refusedReading, afterLine}
+use Rattle.reader.specs.Scan.{orderOf, lastOf, mayStand, mayStart, stripesOf, sortOf, scanOf, progressOf, inOrderAfter, afterClaim, afterScan}
 use Rattle.reader.specs.declared.scan.Scan.{Scan}
 use Rattle.reader.specs.declared.scan.Progress.the-variants.{Going, Turned}
 
@@ -24,6 +24,7 @@ pub stripes-cons : (c : Claim) (cs : List Claim) → stripesAmong (c ∷ cs) ≡
 stripes-cons (Leas v n) cs = sym (add-zero (stripesAmong cs))
 stripes-cons (Most v n) cs = sym (add-zero (stripesAmong cs))
 stripes-cons (Strp s) cs = refl
+stripes-cons (Turn r) cs = sym (add-zero (stripesAmong cs))
 
 pub stripes-snoc : (cs : List Claim) (c : Claim) → stripesAmong (cs ++ (c ∷ [])) ≡ stripesAmong cs + stripesOf (orderOf c)
 stripes-snoc [] c = stripes-cons c []
@@ -45,14 +46,27 @@ follow-same (Most u n) (Strp s) = refl
 follow-same (Strp t) (Leas v m) = refl
 follow-same (Strp t) (Most v m) = refl
 follow-same (Strp t) (Strp s) = refl
+follow-same (Turn r) (Leas v m) = refl
+follow-same (Turn r) (Most v m) = refl
+follow-same (Turn r) (Strp s) = refl
+follow-same (Leas u n) (Turn r) = refl
+follow-same (Most u n) (Turn r) = refl
+follow-same (Strp t) (Turn r) = refl
+follow-same (Turn q) (Turn r) = refl
 
-follow-last : (cs : List Claim) (c : Claim) → mayFollowAll cs c ≡ cond (eqb (length cs) 0) true (mayStand (lastOf cs) (orderOf c))
-follow-last [] c = refl
-follow-last (b ∷ []) c = follow-same b c
-follow-last (a ∷ (b ∷ bs)) c = follow-last (b ∷ bs) c ∙ rw (eqb·suc-zero (length bs), eqb·suc-zero (length (b ∷ bs)))
+start-same : (k : ℕ) (c : Claim) → mayBegin k c ≡ mayStart k (orderOf c)
+start-same k (Leas v n) = refl
+start-same k (Most v n) = refl
+start-same k (Strp s) = refl
+start-same k (Turn r) = refl
 
-order-same : (ps : List Point) (cs : List Claim) (c : Claim) → inOrder cs c ≡ inOrderAfter (scanOf ps cs) (orderOf c)
-order-same ps cs c = rw (stripes-cons c cs, follow-last cs c) (go (decLe (stripesAmong cs + stripesOf (orderOf c)) greatestStripes) (cond (eqb (length cs) 0) true (mayStand (lastOf cs) (orderOf c))))
+follow-last : (k : ℕ) (cs : List Claim) (c : Claim) → mayFollowAll k cs c ≡ cond (eqb (length cs) 0) (mayStart k (orderOf c)) (mayStand (lastOf cs) (orderOf c))
+follow-last k [] c = start-same k c
+follow-last k (b ∷ []) c = follow-same b c
+follow-last k (a ∷ (b ∷ bs)) c = follow-last k (b ∷ bs) c ∙ rw (eqb·suc-zero (length bs), eqb·suc-zero (length (b ∷ bs)))
+
+order-same : (ps : List Point) (k : ℕ) (cs : List Claim) (c : Claim) → inOrder k cs c ≡ inOrderAfter (scanOf ps cs) k (orderOf c)
+order-same ps k cs c = rw (stripes-cons c cs, follow-last k cs c) (go (decLe (stripesAmong cs + stripesOf (orderOf c)) greatestStripes) (cond (eqb (length cs) 0) (mayStart k (orderOf c)) (mayStand (lastOf cs) (orderOf c))))
   where
     go : Dec (stripesAmong cs + stripesOf (orderOf c) ≤ greatestStripes) → (b : Bool) → (b && leb (stripesAmong cs + stripesOf (orderOf c)) greatestStripes) ≡ cond (ltb greatestStripes (stripesAmong cs + stripesOf (orderOf c))) false b
     go (yes h) b = rw (le-leb _ _ h, le-ltb greatestStripes _ h) (and-true b)
@@ -65,12 +79,13 @@ after-order : (q : Scan) (k : ℕ) (c : Claim) → afterScan (Going q) k (sortOf
 after-order q k (Leas v n) = refl
 after-order q k (Most v n) = refl
 after-order q k (Strp s) = refl
+after-order q k (Turn r) = refl
 
 -- one line more
 pub after-same : (r : Reading) (k : ℕ) (l : Line) → progressOf (afterLine r k l) ≡ afterScan (progressOf r) k (sortOf l)
 after-same (refusedReading r) k l = refl
 after-same (going ps cs) k (refusedLine r) = refl
-after-same (going ps cs) k (claimLine c) = rw (after-order (scanOf ps cs) k c, order-same ps cs c) (go (inOrderAfter (scanOf ps cs) (orderOf c)))
+after-same (going ps cs) k (claimLine c) = rw (after-order (scanOf ps cs) k c, order-same ps k cs c) (go (inOrderAfter (scanOf ps cs) k (orderOf c)))
   where
     more : scanOf ps (cs ++ (c ∷ [])) ≡ record { points = length ps; claims = length cs + 1; stripes = stripesAmong cs + stripesOf (orderOf c); last = orderOf c }
     more = rw (length-append cs (c ∷ []), stripes-snoc cs c, last-snoc cs c)

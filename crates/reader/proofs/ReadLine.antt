@@ -5,7 +5,7 @@ use mathlib.Core.Bool.{true, false}
 use mathlib.Core.List.{List}
 use Rattle.model.specs.declared.text.Field.{Field}
 use Rattle.model.specs.declared.text.Word.{Word}
-use Rattle.model.specs.declared.text.Word.the-variants.{Stop as STOP, Setc as SETC, Copy as COPY, Addw as ADDW, Subw as SUBW, Mulw as MULW, Divf as DIVF, Load as LOAD, Stor as STOR, Jump as JUMP, Bltu as BLTU, Bequ as BEQU, Leas as LEAS, Most as MOST, Strp as STRP, Divm as DIVM}
+use Rattle.model.specs.declared.text.Word.the-variants.{Stop as STOP, Setc as SETC, Copy as COPY, Addw as ADDW, Subw as SUBW, Mulw as MULW, Divf as DIVF, Load as LOAD, Stor as STOR, Jump as JUMP, Bltu as BLTU, Bequ as BEQU, Leas as LEAS, Most as MOST, Strp as STRP, Divm as DIVM, Turn as TURN}
 use Rattle.model.specs.declared.text.FoundWord.the-variants.{Unknown, Known}
 use Rattle.model.specs.declared.claims.Line.{Line}
 use Rattle.model.specs.declared.claims.Line.the-variants.{Refused as refusedLine}
@@ -47,6 +47,7 @@ kept-from LEAS fs = refl
 kept-from MOST fs = refl
 kept-from STRP fs = refl
 kept-from DIVM fs = refl
+kept-from TURN fs = refl
 
 sort-from : (w : Word) (fs : List Field) → sortFrom w (F1 fs) ≡ sortOf (lineFrom w fs)
 sort-from STOP fs = refl
@@ -65,6 +66,7 @@ sort-from LEAS fs = refl
 sort-from MOST fs = refl
 sort-from STRP fs = refl
 sort-from DIVM fs = refl
+sort-from TURN fs = refl
 
 module _ (place : ℕ) (w : Word) (fs : List Field) (x : Read) where
   line-as : (j : Judgement) (l : Line) → judged place (Known w) fs ≡ j → lineOr j (lineFrom w fs) ≡ l → ReadAs l x → ReadAs (lineOr (judged place (Known w) fs) (lineFrom w fs)) x

@@ -13,7 +13,7 @@ use lib.Dec.{leb}
 use borrow.Author.Tests.{le-leb, lt-leb, leb-true}
 use Rattle.model.specs.declared.machine.Instruction.{Instruction}
 use Rattle.model.specs.declared.claims.Claim.{Claim}
-use Rattle.model.specs.declared.claims.Claim.the-variants.{Leas, Most, Strp}
+use Rattle.model.specs.declared.claims.Claim.the-variants.{Leas, Most, Strp, Turn}
 use Rattle.model.specs.declared.claims.Line.{Line}
 use Rattle.model.specs.declared.claims.Line.the-variants.{Refused as refusedLine, Claim as claimLine, Instruction as instructionLine}
 use Rattle.model.specs.declared.answers.Refusal.{Refusal}
@@ -210,16 +210,17 @@ pub scanned-next : (rows at : List ℕ) (n : ℕ) (x : Reading) (l : Line) (r : 
 scanned-next rows at n (refusedReading x) l r e t room short long h = tt
 scanned-next rows at n (going ps cs) (refusedLine x) r e t room short long h = tt
 scanned-next rows at n (going ps cs) (claimLine c) r e t room short long h =
-    cond-cases (ScannedSo (withRow rows n r) (noted at (progressOf (going ps cs)) n (sortOf (claimLine c))) (suc n)) (inOrder cs c) (going ps (cs ++ (c ∷ []))) (refusedReading (ClaimOrder (n + 1)))
+    cond-cases (ScannedSo (withRow rows n r) (noted at (progressOf (going ps cs)) n (sortOf (claimLine c))) (suc n)) (inOrder n cs c) (going ps (cs ++ (c ∷ []))) (refusedReading (ClaimOrder (n + 1)))
     (λ z. subst (λ (a : List ℕ). Scanned (withRow rows n r) a (suc n) ps (cs ++ (c ∷ []))) (aside c) (claim-more rows at n r room short long ps cs h c e t (few z))) (λ z. tt)
   where
-    few : inOrder cs c ≡ true → stripesAmong (cs ++ (c ∷ [])) ≤ greatestStripes
-    few z = omega (arith, leb-true (stripesAmong (c ∷ cs)) greatestStripes (and-right (mayFollowAll cs c) (leb (stripesAmong (c ∷ cs)) greatestStripes) z), stripes-cons c cs, stripes-snoc cs c)
+    few : inOrder n cs c ≡ true → stripesAmong (cs ++ (c ∷ [])) ≤ greatestStripes
+    few z = omega (arith, leb-true (stripesAmong (c ∷ cs)) greatestStripes (and-right (mayFollowAll n cs c) (leb (stripesAmong (c ∷ cs)) greatestStripes) z), stripes-cons c cs, stripes-snoc cs c)
 
     aside : (c : Claim) → at ≡ noted at (progressOf (going ps cs)) n (sortOf (claimLine c))
     aside (Leas v m) = refl
     aside (Most v m) = refl
     aside (Strp s) = refl
+    aside (Turn r) = refl
 scanned-next rows at n (going ps cs) (instructionLine i) r e t room short long h = point-noted rows at n r room short long ps cs h i e t (decLe (length ps) greatestPoints)
 
 -- before the first line

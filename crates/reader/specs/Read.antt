@@ -13,7 +13,7 @@ use Rattle.decoded.specs.Decoded.{claimsFrom, lineOfRow, kept}
 use Rattle.reader.specs.declared.read.Read.{Read}
 use Rattle.reader.specs.declared.scan.Scan.{Scan}
 use Rattle.reader.specs.declared.scan.Sort.{Sort}
-use Rattle.reader.specs.declared.scan.Sort.the-variants.{Refused as refusedSort, Leas as leasSort, Most as mostSort, Strp as strpSort, Instruction as instructionSort}
+use Rattle.reader.specs.declared.scan.Sort.the-variants.{Refused as refusedSort, Leas as leasSort, Most as mostSort, Strp as strpSort, Instruction as instructionSort, Turn as turnSort}
 use Rattle.reader.specs.declared.scan.Progress.{Progress}
 use Rattle.reader.specs.declared.scan.Progress.the-variants.{Going, Turned}
 use Rattle.reader.specs.Sizes.{placeNumbers}
@@ -41,6 +41,7 @@ noted at (Going q) k (leasSort v) = at
 noted at (Going q) k (mostSort v) = at
 noted at (Going q) k strpSort = at
 noted at (Going q) k instructionSort = pointNoted at q k
+noted at (Going q) k turnSort = at
 
 -- place p holds the point q, on one of n lines
 pub record HoldsPoint (rows at : List ℕ) (n p : ℕ) (q : Point) : Type 0 where

@@ -49,6 +49,7 @@ pub(crate) fn note(at: &mut [u16], p: Progress, k: usize, l: Sort)
             Sort::Most(_) => {}
             Sort::Strp => {}
             Sort::Instruction => note_point(at, q, k),
+            Sort::Turn => {}
         },
     }
 }

@@ -70,6 +70,7 @@ fn sort_of(w: Word, v: u64) -> Sort
         Word::Most => Sort::Most(v),
         Word::Strp => Sort::Strp,
         Word::Divm => Sort::Instruction,
+        Word::Turn => Sort::Turn,
     }
 }
 

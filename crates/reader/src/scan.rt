@@ -6,9 +6,9 @@ ghost use Prim.Native.Nat.{_≤_, _<_};
 ghost use mathlib.Core.List.{[]};
 ghost use Rattle.model.specs.Limits.{greatestStripes, greatestLines};
 ghost use Rattle.model.specs.Listing.{going};
-ghost use Rattle.reader.specs.Scan.{order, noOrder, mayStand, stripesOf, inOrderAfter, afterClaim, afterScan, progressOf, Within};
+ghost use Rattle.reader.specs.Scan.{order, noOrder, mayStand, mayStart, stripesOf, inOrderAfter, afterClaim, afterScan, progressOf, Within};
 
-// What decides where a claim may stand: the rank of its word, LEAS 0, MOST 1 and STRP 2, and the variable of the first two.
+// What decides where a claim may stand: the rank of its word, TURN 0, LEAS 1, MOST 2 and STRP 3, and the variable of LEAS and MOST.
 pub struct Order {
     pub rank: u64,
     pub variable: u64,
@@ -21,6 +21,7 @@ pub enum Sort {
     Most(u64),
     Strp,
     Instruction,
+    Turn,
 }
 
 // What has been read so far: the points, and of the claims since the last of them how many, how many stripes, and the order of the last.
@@ -36,8 +37,14 @@ pub enum Progress {
     Turned(Refusal),
 }
 
-// The rank of STRP.
-const STRIPE: u64 = 2;
+// The ranks of the claims.
+const TURN: u64 = 0;
+
+const LEAST: u64 = 1;
+
+const MOST: u64 = 2;
+
+const STRIPE: u64 = 3;
 
 // An order from its parts.
 fn order_of(rank: u64, variable: u64) -> Order
@@ -50,7 +57,7 @@ fn order_of(rank: u64, variable: u64) -> Order
 fn no_order() -> Order
     ensures { λ r. ⌜ r ≡ noOrder ⌝ }
 {
-    order_of(0, 0)
+    order_of(TURN, 0)
 }
 
 // Before the first line.
@@ -82,16 +89,26 @@ fn stripes_of(c: Order) -> usize
     0
 }
 
-// Whether a claim stands in order after those read.
-fn in_order(q: Scan, c: Order) -> bool
+// Whether a claim on the k-th line may be the first of its point: TURN only on the first line of all.
+fn may_begin(k: usize, c: Order) -> bool
+    ensures { λ r. ⌜ r ≡ mayStart k c ⌝ }
+{
+    if c.rank == TURN {
+        return k == 0;
+    }
+    true
+}
+
+// Whether a claim on the k-th line stands in order after those read.
+fn in_order(q: Scan, k: usize, c: Order) -> bool
     requires { ⌜ q .stripes ≤ greatestStripes ⌝ }
-    ensures { λ r. ⌜ r ≡ inOrderAfter q c ⌝ }
+    ensures { λ r. ⌜ r ≡ inOrderAfter q k c ⌝ }
 {
     if GREATEST_STRIPES < q.stripes + stripes_of(c) {
         return false;
     }
     if q.claims == 0 {
-        return true;
+        return may_begin(k, c);
     }
     let last = q.last;
     may_stand(last, c)
@@ -102,7 +119,7 @@ fn after_claim(q: Scan, k: usize, c: Order) -> Progress
     requires { ⌜ (k < greatestLines) × (q .claims ≤ k) × (q .stripes ≤ greatestStripes) ⌝ }
     ensures { λ r. ⌜ r ≡ afterClaim q k c ⌝ }
 {
-    if in_order(q, c) {
+    if in_order(q, k, c) {
         return Progress::Going(Scan {
             points: q.points,
             claims: q.claims + 1,
@@ -122,8 +139,8 @@ pub(crate) fn after(p: Progress, k: usize, l: Sort) -> Progress
         Progress::Turned(r) => Progress::Turned(r),
         Progress::Going(q) => match l {
             Sort::Refused(r) => Progress::Turned(r),
-            Sort::Leas(v) => after_claim(q, k, order_of(0, v)),
-            Sort::Most(v) => after_claim(q, k, order_of(1, v)),
+            Sort::Leas(v) => after_claim(q, k, order_of(LEAST, v)),
+            Sort::Most(v) => after_claim(q, k, order_of(MOST, v)),
             Sort::Strp => after_claim(q, k, order_of(STRIPE, 0)),
             Sort::Instruction => Progress::Going(Scan {
                 points: q.points + 1,
@@ -131,6 +148,7 @@ pub(crate) fn after(p: Progress, k: usize, l: Sort) -> Progress
                 stripes: 0,
                 last: no_order(),
             }),
+            Sort::Turn => after_claim(q, k, order_of(TURN, 0)),
         },
     }
 }

@@ -27,8 +27,10 @@ note-spec =
     note-point-requires
     (λ c. search needs)
     (λ c. search needs)
+    (λ c. simp (c .enum-told2 .given .1, c .before .before .before .p .given .1))
+    (λ c. simp (c .enum-told3 .given .1, c .before .before .before .p .given .1))
+    (λ c. simp (c .enum-told4 .given .1, c .before .before .before .p .given .1))
+    (λ c. simp (c .enum-told5 .given .1, c .before .before .before .p .given .1))
     (λ c. search needs)
-    (λ c. search needs)
-    (λ c. search needs)
-    (λ c. search needs)
-    returns-6)
+    returns-6
+    (λ c. simp (c .enum-told7 .given .1, c .before .before .before .p .given .1)))

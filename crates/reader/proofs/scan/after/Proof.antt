@@ -24,6 +24,11 @@ after-claim-requires-3 c κs =
     let w : Within (Going (c .before .before .before .before .p2 .given .0 .0)) (c .before .before .before .before .before .before .args .k) = rw (c .before .before .before .before .p2 .given .1) at (c .before .before .before .before .before .before .pre .1) in
     (c .before .before .before .before .before .before .pre .0, w .1, w .2)
 
+after-claim-requires-4 : tie.Need-after-claim-requires-4
+after-claim-requires-4 c κs =
+    let w : Within (Going (c .before .before .before .before .p2 .given .0 .0)) (c .before .before .before .before .before .before .args .k) = rw (c .before .before .before .before .p2 .given .1) at (c .before .before .before .before .before .before .pre .1) in
+    (c .before .before .before .before .before .before .pre .0, w .1, w .2)
+
 add-t14 : tie.Need-add-t14
 add-t14 c =
     let w : Within (Going (c .before .before .before .before .p2 .given .0 .0)) (c .before .before .before .before .before .before .args .k) = rw (c .before .before .before .before .p2 .given .1) at (c .before .before .before .before .before .before .pre .1) in
@@ -47,6 +52,9 @@ returns-5 c = rw (c .before .before .enum-told .given .1, c .before .before .bef
 returns-6 : tie.Need-returns-6
 returns-6 c = simp (← c .no-order .ensures, c .before .before .enum-told2 .given .1, c .before .before .before .before .before .p2 .given .1)
 
+returns-7 : tie.Need-returns-7
+returns-7 c = rw (c .before .before .enum-told3 .given .1, c .before .before .before .before .before .p2 .given .1) (c .after-claim4 .ensures ∙ ap (afterClaim (c .before .before .before .before .before .p2 .given .0 .0) (c .before .before .before .before .before .before .before .args .k)) (c .before .order-of4 .ensures))
+
 pub after-spec : {M : Type 1} → statement M
 after-spec =
     tie.close
@@ -66,9 +74,13 @@ after-spec =
     (λ c. search needs)
     add-t14
     (λ c κs. search needs)
+    (λ c. search needs)
+    (λ c κs. search needs)
+    after-claim-requires-4
     returns
     returns-2
     returns-3
     returns-4
     returns-5
-    returns-6)
+    returns-6
+    returns-7)

@@ -7,7 +7,7 @@ returns : tie.Need-returns
 returns c = simp (lt-ltb _ _ (c .if1 .taken), ← c .before .before .stripes-of .ensures .0)
 
 returns-2 : tie.Need-returns-2
-returns-2 c = simp (eq-eqb _ _ (c .if2 .taken), le-ltb _ _ (c .before .before .if1 .left), ← c .before .before .before .before .stripes-of .ensures .0)
+returns-2 c = simp (← c .may-begin .ensures, eq-eqb _ _ (c .before .if2 .taken), le-ltb _ _ (c .before .before .before .if1 .left), ← c .before .before .before .before .before .stripes-of .ensures .0)
 
 returns-3 : tie.Need-returns-3
 returns-3 c = simp (← c .may-stand .ensures, ne-eqb _ _ (c .before .before .if2 .left), le-ltb _ _ (c .before .before .before .before .if1 .left), ← c .before .before .before .before .before .before .stripes-of .ensures .0)
@@ -15,4 +15,4 @@ returns-3 c = simp (← c .may-stand .ensures, ne-eqb _ _ (c .before .before .if
 pub in-order-spec : {M : Type 1} → statement M
 in-order-spec =
     tie.close
-    (tie.spec (λ c κs. search needs) (λ c. search needs) returns returns-2 (λ c κs. search needs) returns-3)
+    (tie.spec (λ c κs. search needs) (λ c. search needs) returns (λ c κs. search needs) returns-2 (λ c κs. search needs) returns-3)
