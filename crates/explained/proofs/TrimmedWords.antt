@@ -1,7 +1,7 @@
 -- Without the spaces at their right, the texts that the code holds are the words. Assumes nothing.
 use mathlib.Core.Path.{_≡_, refl}
 use Rattle.model.specs.declared.answers.Refusal.{Refusal}
-use Rattle.model.specs.declared.answers.Refusal.the-variants.{ListingLength, LineBytes, UnknownWord, FieldShape, NumberLimits, ClaimOrder, LastLineClaim, TooManyPoints, NoSuchTarget, NoEnd, EmptyStart, DivisorMayBeZero, AccessMayLeave, ClaimMayFail, TableLength, NoSuchPoint, ClaimsNotMet, NoRoom, SameRegister}
+use Rattle.model.specs.declared.answers.Refusal.the-variants.{ListingLength, LineBytes, UnknownWord, FieldShape, NumberLimits, ClaimOrder, LastLineClaim, TooManyPoints, NoSuchTarget, NoEnd, EmptyStart, DivisorMayBeZero, AccessMayLeave, ClaimMayFail, TableLength, NoSuchPoint, ClaimsNotMet, NoRoom, SameRegister, UncoveredEdge}
 use Rattle.explained.specs.Explanation.{meaningOf, adviceOf, padded, trimmedTo, trimmedText}
 
 pub meaning-trimmed : (r : Refusal) → trimmedText (padded 80 (meaningOf r)) ≡ meaningOf r
@@ -25,6 +25,7 @@ meaning-trimmed NoSuchPoint = refl
 meaning-trimmed ClaimsNotMet = refl
 meaning-trimmed NoRoom = refl
 meaning-trimmed (SameRegister l) = refl
+meaning-trimmed (UncoveredEdge l) = refl
 
 pub advice-trimmed : (r : Refusal) → trimmedText (padded 80 (adviceOf r)) ≡ adviceOf r
 unfolding trimmedTo
@@ -47,3 +48,4 @@ advice-trimmed NoSuchPoint = refl
 advice-trimmed ClaimsNotMet = refl
 advice-trimmed NoRoom = refl
 advice-trimmed (SameRegister l) = refl
+advice-trimmed (UncoveredEdge l) = refl

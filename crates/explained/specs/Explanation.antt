@@ -7,7 +7,7 @@ use mathlib.Core.List.{List, [], map, _++_}
 use lib.ListN.{length, take, drop, getD, replicate}
 use lib.Dec.{leb, eqb}
 use Rattle.model.specs.declared.answers.Refusal.{Refusal}
-use Rattle.model.specs.declared.answers.Refusal.the-variants.{ListingLength, LineBytes, UnknownWord, FieldShape, NumberLimits, ClaimOrder, LastLineClaim, TooManyPoints, NoSuchTarget, NoEnd, EmptyStart, DivisorMayBeZero, AccessMayLeave, ClaimMayFail, TableLength, NoSuchPoint, ClaimsNotMet, NoRoom, SameRegister}
+use Rattle.model.specs.declared.answers.Refusal.the-variants.{ListingLength, LineBytes, UnknownWord, FieldShape, NumberLimits, ClaimOrder, LastLineClaim, TooManyPoints, NoSuchTarget, NoEnd, EmptyStart, DivisorMayBeZero, AccessMayLeave, ClaimMayFail, TableLength, NoSuchPoint, ClaimsNotMet, NoRoom, SameRegister, UncoveredEdge}
 use Rattle.model.specs.Limits.{lineBytes}
 use Rattle.model.specs.Text.{space}
 use Rattle.model.specs.Words.{bytes}
@@ -20,7 +20,7 @@ meaningOf (LineBytes l) = bytes "a byte that cannot stand in a line, or a line w
 meaningOf (UnknownWord l) = bytes "the first four columns are no word"
 meaningOf (FieldShape l) = bytes "a field has the wrong shape, is missing, or is filled where it is due blank"
 meaningOf (NumberLimits l) = bytes "a number is outside its limits"
-meaningOf (ClaimOrder l) = bytes "a claim out of order, repeated, or a ninth STRP"
+meaningOf (ClaimOrder l) = bytes "a claim out of order, repeated, a ninth STRP, or a TURN after line 1"
 meaningOf (LastLineClaim l) = bytes "the last line is a claim"
 meaningOf (TooManyPoints l) = bytes "more than 512 points"
 meaningOf (NoSuchTarget l) = bytes "a target that is no point"
@@ -34,6 +34,7 @@ meaningOf NoSuchPoint = bytes "the state's point does not exist"
 meaningOf ClaimsNotMet = bytes "the state does not meet the claims of its point"
 meaningOf NoRoom = bytes "the listing has no room for the line"
 meaningOf (SameRegister l) = bytes "quotient and remainder are to go to the same register"
+meaningOf (UncoveredEdge l) = bytes "a way back is not covered by the TURN register"
 
 -- what to do about it
 abbrev pub adviceOf : Refusal → List ℕ
@@ -42,7 +43,7 @@ adviceOf (LineBytes l) = bytes "look at the bytes of the line"
 adviceOf (UnknownWord l) = bytes "correct the word"
 adviceOf (FieldShape l) = bytes "right-justify the number; clear what is not named"
 adviceOf (NumberLimits l) = bytes "look up the field's limits"
-adviceOf (ClaimOrder l) = bytes "LEAS lines, then MOST lines, each by rising variable, then at most 8 STRP"
+adviceOf (ClaimOrder l) = bytes "TURN on line 1; LEAS, then MOST, each by rising variable; then at most 8 STRP"
 adviceOf (LastLineClaim l) = bytes "put its instruction after it"
 adviceOf (TooManyPoints l) = bytes "split the routine"
 adviceOf (NoSuchTarget l) = bytes "points count from 0"
@@ -56,6 +57,7 @@ adviceOf NoSuchPoint = bytes "look at the state's JUMP line"
 adviceOf ClaimsNotMet = bytes "compare the registers and the sizes of the tables with the claims there"
 adviceOf NoRoom = bytes "lend more bytes; lines count from 1 to 1,638"
 adviceOf (SameRegister l) = bytes "name two registers, one in F1 and one in F3"
+adviceOf (UncoveredEdge l) = bytes "go back by a JUMP right after a SUBW of that register, with LEAS for it"
 
 -- a text with spaces behind it, n bytes in all
 abbrev pub padded : ℕ → List ℕ → List ℕ

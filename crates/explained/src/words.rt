@@ -36,8 +36,8 @@ const NUMBER_LIMITS: RefusalWords = RefusalWords {
 };
 
 const CLAIM_ORDER: RefusalWords = RefusalWords {
-    meaning: *b"a claim out of order, repeated, or a ninth STRP                                 ",
-    advice: *b"LEAS lines, then MOST lines, each by rising variable, then at most 8 STRP       ",
+    meaning: *b"a claim out of order, repeated, a ninth STRP, or a TURN after line 1            ",
+    advice: *b"TURN on line 1; LEAS, then MOST, each by rising variable; then at most 8 STRP   ",
 };
 
 const LAST_LINE_CLAIM: RefusalWords = RefusalWords {
@@ -105,6 +105,11 @@ const SAME_REGISTER: RefusalWords = RefusalWords {
     advice: *b"name two registers, one in F1 and one in F3                                     ",
 };
 
+const UNCOVERED_EDGE: RefusalWords = RefusalWords {
+    meaning: *b"a way back is not covered by the TURN register                                  ",
+    advice: *b"go back by a JUMP right after a SUBW of that register, with LEAS for it         ",
+};
+
 // The words of a refusal.
 pub fn words(r: Refusal) -> RefusalWords
     ensures { λ x. ⌜ (x .meaning ≡ padded 80 (meaningOf r)) × (x .advice ≡ padded 80 (adviceOf r)) ⌝ }
@@ -129,5 +134,6 @@ pub fn words(r: Refusal) -> RefusalWords
         Refusal::ClaimsNotMet => CLAIMS_NOT_MET,
         Refusal::NoRoom => NO_ROOM,
         Refusal::SameRegister { line: _ } => SAME_REGISTER,
+        Refusal::UncoveredEdge { line: _ } => UNCOVERED_EDGE,
     }
 }

@@ -1,2 +1,3 @@
 pub mod PrintedLine
 pub mod RunLine
+pub mod BoundLine

@@ -8,12 +8,19 @@ use Rattle.model.specs.declared.answers.Report.{Report}
 use Rattle.model.specs.declared.answers.Report.the-variants.{Stopped, Paused, Refused as refusedRun}
 use Rattle.model.specs.declared.answers.Verdict.{Verdict}
 use Rattle.model.specs.declared.answers.Verdict.the-variants.{Passed, Refused as refusedVerdict}
+use Rattle.model.specs.declared.answers.StepBound.{StepBound}
+use Rattle.model.specs.declared.answers.StepBound.the-variants.{Bounded, Refused as refusedBound}
 use Rattle.model.specs.Answers.{numberOf, placeOf, secondPlaceOf}
 
 -- the checker's answer: the number of the refusal, or 0; its place; its second place; the points of a passed listing
 abbrev pub answerOf : Verdict → List ℕ
 answerOf (Passed n) = 0 ∷ 0 ∷ 0 ∷ n ∷ []
 answerOf (refusedVerdict r) = numberOf r ∷ placeOf r ∷ secondPlaceOf r ∷ 0 ∷ []
+
+-- the answer for the bound: the number of the refusal, or 0; its place; its second place; the bound
+abbrev pub boundAnswer : StepBound → List ℕ
+boundAnswer (Bounded n) = 0 ∷ 0 ∷ 0 ∷ n ∷ []
+boundAnswer (refusedBound r) = numberOf r ∷ placeOf r ∷ secondPlaceOf r ∷ 0 ∷ []
 
 -- the number of the refusal that a judgement gives, or 0
 abbrev pub judgedNumber : Judgement → ℕ

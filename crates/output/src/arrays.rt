@@ -3,9 +3,10 @@ use crate::refusal::numbers;
 use model::answers::ClaimPart;
 use model::answers::Judgement;
 use model::answers::Report;
+use model::answers::StepBound;
 use model::answers::Verdict;
 ghost use mathlib.Core.Path.{_≡_};
-ghost use Rattle.output.specs.Arrays.{answerOf, judgedAnswer, partAnswer, runAnswer};
+ghost use Rattle.output.specs.Arrays.{answerOf, boundAnswer, judgedAnswer, partAnswer, runAnswer};
 
 // The checker's answer as four numbers.
 pub fn verdict_numbers(v: Verdict) -> [u64; 4]
@@ -17,6 +18,19 @@ pub fn verdict_numbers(v: Verdict) -> [u64; 4]
             [0, 0, 0, n]
         }
         Verdict::Refused(r) => {
+            let x = numbers(r);
+            [x.number, x.place, x.second, 0]
+        }
+    }
+}
+
+// The bound of a listing as four numbers.
+pub fn bound_numbers(b: StepBound) -> [u64; 4]
+    ensures { λ r. ⌜ r ≡ boundAnswer b ⌝ }
+{
+    match b {
+        StepBound::Bounded { steps } => [0, 0, 0, steps],
+        StepBound::Refused(r) => {
             let x = numbers(r);
             [x.number, x.place, x.second, 0]
         }

@@ -17,11 +17,11 @@ fn place_field(n: u64) -> Field
     Field::Number(n)
 }
 
-// The fields of a PASS line.
-fn pass_fields(points: usize) -> [Field; 6]
+// The fields of a line with a number in F6 alone, as a PASS line.
+pub(crate) fn pass_fields(points: u64) -> [Field; 6]
     ensures { λ r. ⌜ r ≡ passFields points ⌝ }
 {
-    let n = Field::Number(points as u64);
+    let n = Field::Number(points);
     [
         Field::Blank,
         Field::Blank,
@@ -51,7 +51,7 @@ pub fn printed(v: Verdict) -> [u8; 40]
     match v {
         Verdict::Passed { points } => {
             let t = *b"PASS";
-            written_line::set_line(&mut line, &t, pass_fields(points));
+            written_line::set_line(&mut line, &t, pass_fields(points as u64));
             line
         }
         Verdict::Refused(r) => {

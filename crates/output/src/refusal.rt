@@ -49,5 +49,6 @@ pub fn numbers(r: Refusal) -> RefusalNumbers
         Refusal::ClaimsNotMet => with_place(17, 0),
         Refusal::NoRoom => with_place(18, 0),
         Refusal::SameRegister { line } => with_place(19, line),
+        Refusal::UncoveredEdge { line } => with_place(20, line),
     }
 }
