@@ -47,7 +47,7 @@ made (Bequ i t o) c = refl
 made (Divm q i r o) c =
     cond-cases (Made (Divm q i r o)) (eqb (operandValue c o) 0) errorState _ (λ z. tt) (λ z. refl)
 
-at-same : {c d : Config} → at c ≡ at d → c ≡ d
+pub at-same : {c d : Config} → at c ≡ at d → c ≡ d
 at-same e = cc
 
 module _ (ps : List Point) (passes : Passes ps) (sizes : List ℕ) (c₀ : Config) where

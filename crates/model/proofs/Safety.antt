@@ -27,15 +27,15 @@ use Rattle.model.proofs.Runs.{ran}
 use Rattle.model.proofs.Runs
 
 -- what passing gives
-record Checked (l : List ℕ) : Type 0 where
-  passes : Passes (pointsOf (listingOf l))
+pub record Checked (l : List ℕ) : Type 0 where
+  pub passes : Passes (pointsOf (listingOf l))
   accepted : listingJudged (listingOf l) ≡ Accepted
 
 verdict-accepted : (n k : ℕ) (j : Judgement) → verdictFrom n j ≡ Passed k → j ≡ Accepted
 verdict-accepted n k Accepted e = refl
 verdict-accepted n k (refused r) e = let z : _≡_ {A = ℕ} 0 1 = cc in absurd (omega arith)
 
-checked : (l : List ℕ) (k : ℕ) → check l ≡ Passed k → Checked l
+pub checked : (l : List ℕ) (k : ℕ) → check l ≡ Passed k → Checked l
 unfolding check
 checked l k e = go (listingOf l) refl e
   where

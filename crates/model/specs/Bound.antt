@@ -6,7 +6,7 @@ use mathlib.Core.Bool.{Bool, true, false, not, _&&_, _||_, cond}
 use mathlib.Core.List.{List, [], _∷_}
 use lib.ListN.{length}
 use lib.Dec.{leb, eqb}
-use Rattle.model.specs.Types.{Operand, variable, number, Instruction, Stop, Setc, Copy, Addw, Subw, Mulw, Divf, Load, Stor, Jump, Bltu, Bequ, Divm, Claim, Leas, Most, Strp, Turn, State, UncoveredEdge, Judgement, Accepted, refused, StepBound, Bounded, refusedBound, Stopped}
+use Rattle.model.specs.Types.{Operand, variable, number, Instruction, Stop, Setc, Copy, Addw, Subw, Mulw, Divf, Load, Stor, Jump, Bltu, Bequ, Divm, Claim, Leas, Most, Strp, Turn, Turning, noTurn, turning, State, UncoveredEdge, Judgement, Accepted, refused, StepBound, Bounded, refusedBound, Stopped}
 use Rattle.model.specs.Limits.{registers}
 use Rattle.model.specs.Lists.{every, some, among}
 use Rattle.model.specs.Answers.{_andThen_}
@@ -16,11 +16,6 @@ use Rattle.model.specs.Listing.{Point, pointAt, listingOf, pointsOf}
 use Rattle.model.specs.Check.{listingJudged, check}
 use Rattle.model.specs.Run.{meetsClaims, run}
 use Rattle.model.specs.Safety.{Call, AllLend, ranOn}
-
--- the register of a TURN line, or none
-pub data Turning : Type 0 where
-  noTurn : Turning
-  turning : ℕ → Turning
 
 -- the register of a TURN that is the first of some claims
 abbrev pub turnAmong : List Claim → Turning

@@ -28,6 +28,8 @@ pub use Rattle.model.specs.declared.claims.Range.{Range}
 pub use Rattle.model.specs.declared.claims.Stripe.{Stripe}
 pub use Rattle.model.specs.declared.claims.Claim.{Claim}
 pub use Rattle.model.specs.declared.claims.Claim.the-variants.{Leas, Most, Strp, Turn}
+pub use Rattle.model.specs.declared.claims.Turning.{Turning}
+pub use Rattle.model.specs.declared.claims.Turning.the-variants.{Absent as noTurn, Register as turning}
 pub use Rattle.model.specs.declared.claims.Line.{Line}
 pub use Rattle.model.specs.declared.claims.Line.the-variants.{Refused as refusedLine, Claim as claimLine, Instruction as instructionLine}
 pub use Rattle.model.specs.declared.answers.Refusal.{Refusal}

@@ -75,6 +75,12 @@ pub enum Claim {
     Turn { register: usize },
 }
 
+// The register of a TURN line, or none.
+pub enum Turning {
+    Absent,
+    Register(usize),
+}
+
 // A line of a listing as it is read.
 pub enum Line {
     Refused(Refusal),

@@ -25,7 +25,7 @@ ghost use Rattle.reader.specs.Points.{pointsIn, AllPlaced};
 ghost use Rattle.reader.specs.Read.{Scanned, AllRead};
 
 // The first refusal of two tests made in order.
-fn and_then(j: Judgement, k: Judgement) -> Judgement
+pub fn and_then(j: Judgement, k: Judgement) -> Judgement
     ensures { λ r. ⌜ r ≡ (j andThen k) ⌝ }
 {
     match j {

@@ -9,11 +9,9 @@ use Rattle.model.specs.Listing.{Point, listingOf, pointsOf}
 use Rattle.model.specs.Machine.{lent, Config, at}
 use Rattle.model.specs.Run.{Ran}
 use Rattle.model.specs.Safety.{Call, AllLend, RunsWell, ranOn, Kept}
+use Rattle.model.proofs.Runs.{at-same}
 use Rattle.model.proofs.Safety.{safety}
 use Rattle.runner.specs.Promise.{Answer, byValue, inPlace, outcomeIn, RunMade, handedBack, stateAfter, Contract, MadeInOrder, AllRunWell, Promise}
-
-at-same : {c d : Config} → at c ≡ at d → c ≡ d
-at-same e = cc
 
 -- a run that runs well leaves the trays as they were lent
 trays-kept : (ps : List Point) (sizes : List ℕ) (s : State) (k : Call) (r : Ran) → RunsWell ps sizes s k r → r .tables .trays ≡ k .tables .trays
