@@ -42,7 +42,7 @@ ReadInside n (refusedReading r) = Unit {0}
 inside-more : (n : ℕ) (x : Reading) (l : Line) → ReadInside n x → ReadInside (suc n) (afterLine x n l)
 inside-more n (refusedReading r) l h = tt
 inside-more n (going ps cs) (refusedLine r) h = tt
-inside-more n (going ps cs) (claimLine c) h = cond-cases (ReadInside (suc n)) (inOrder cs c) (going ps (cs ++ (c ∷ []))) (refusedReading (ClaimOrder (n + 1))) (λ e. later n ps h) (λ e. tt)
+inside-more n (going ps cs) (claimLine c) h = cond-cases (ReadInside (suc n)) (inOrder n cs c) (going ps (cs ++ (c ∷ []))) (refusedReading (ClaimOrder (n + 1))) (λ e. later n ps h) (λ e. tt)
 inside-more n (going ps cs) (instructionLine i) h = all-snoc (Inside (suc n)) ps _ (later n ps h) (omega arith)
 
 read-inside : (s : List ℕ) (n : ℕ) → ReadInside n (readTo s n)

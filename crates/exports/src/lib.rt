@@ -1,6 +1,7 @@
-// The checker, the claim lines and the runner for C and Rust.
+// The checker, the bound on steps, the claim lines and the runner for C and Rust.
 use model::limits::REGISTERS;
 use model::machine::State;
+use output::arrays::bound_numbers;
 use output::arrays::part_numbers;
 use output::arrays::run_numbers;
 use output::arrays::verdict_numbers;
@@ -9,9 +10,10 @@ ghost use mathlib.Core.Path.{_≡_};
 ghost use Rattle.model.specs.Listing.{claimPart};
 ghost use Rattle.model.specs.Check.{check};
 ghost use Rattle.model.specs.Output.{printed};
+ghost use Rattle.model.specs.Bound.{stepBound};
 ghost use Rattle.model.specs.Machine.{lent};
 ghost use Rattle.model.specs.Run as Run;
-ghost use Rattle.output.specs.Arrays.{answerOf, partAnswer, runAnswer};
+ghost use Rattle.output.specs.Arrays.{answerOf, boundAnswer, partAnswer, runAnswer};
 ghost use Rattle.state_tests.specs.States.{state};
 ghost use Rattle.exports.specs.Answer.{RunAnswered, RunAnsweredInPlace};
 
@@ -29,6 +31,14 @@ pub extern "C" fn rithwellu_print(listing: &[u8], line: &mut [u8; 40])
     ensures { λ _. ⌜ now (line .exit) ≡ printed (check (now (listing .entry))) ⌝ }
 {
     *line = checker::report(listing);
+}
+
+// How many steps a listing needs at most: number, place and second place of the refusal, or 0; the bound.
+#[no_mangle]
+pub extern "C" fn rithwellu_step_bound(listing: &[u8], answer: &mut [u64; 4])
+    ensures { λ _. ⌜ now (answer .exit) ≡ boundAnswer (stepBound (now (listing .entry))) ⌝ }
+{
+    *answer = bound_numbers(step_bound::step_bound(listing));
 }
 
 // The claim lines of a point as a part of the listing: number and place of the refusal, or 0; offset and length of the part.

@@ -25,7 +25,7 @@ ReadFew n (refusedReading r) = Unit {0}
 few-more : (n : ℕ) (x : Reading) (l : Line) → ReadFew n x → ReadFew (suc n) (afterLine x n l)
 few-more n (refusedReading r) l h = tt
 few-more n (going ps cs) (refusedLine r) h = tt
-few-more n (going ps cs) (claimLine c) h = cond-cases (ReadFew (suc n)) (inOrder cs c) (going ps (cs ++ (c ∷ []))) (refusedReading (ClaimOrder (n + 1))) (λ e. omega arith) (λ e. tt)
+few-more n (going ps cs) (claimLine c) h = cond-cases (ReadFew (suc n)) (inOrder n cs c) (going ps (cs ++ (c ∷ []))) (refusedReading (ClaimOrder (n + 1))) (λ e. omega arith) (λ e. tt)
 few-more n (going ps cs) (instructionLine i) h = rw length-append (omega arith)
 
 read-few : (s : List ℕ) (n : ℕ) → ReadFew n (readTo s n)

@@ -10,7 +10,7 @@ use Rattle.model.specs.Lists.{everyBelow}
 use Rattle.model.specs.declared.text.Field.{Field}
 use Rattle.model.specs.declared.text.Field.the-variants.{Blank, Number, Negative, Misshapen}
 use Rattle.model.specs.declared.text.Word.{Word}
-use Rattle.model.specs.declared.text.Word.the-variants.{Stop, Setc, Copy, Addw, Subw, Mulw, Divf, Load, Stor, Jump, Bltu, Bequ, Leas, Most, Strp, Divm}
+use Rattle.model.specs.declared.text.Word.the-variants.{Stop, Setc, Copy, Addw, Subw, Mulw, Divf, Load, Stor, Jump, Bltu, Bequ, Leas, Most, Strp, Divm, Turn}
 use Rattle.model.specs.declared.text.Content.{Content}
 use Rattle.model.specs.declared.text.Content.the-variants.{Register, Variable, Target, Width, Table, Scale, Offset, Number as number, Choice, Operand, Claimed, Bound}
 use Rattle.model.specs.declared.text.Kind.{Kind}
@@ -81,6 +81,7 @@ columns-hold Leas = refl
 columns-hold Most = refl
 columns-hold Strp = refl
 columns-hold Divm = refl
+columns-hold Turn = refl
 
 number-fits : (n v g : ℕ) → v ≤ g → (ltb 0 n && ltb g (10 ^ n)) ≡ true → (0 < n) × (v < 10 ^ n)
 number-fits n v g h e = let a = ltb-true 0 n (and-left (ltb 0 n) _ e) in let b = ltb-true g (10 ^ n) (and-right (ltb 0 n) _ e) in (a, omega arith)

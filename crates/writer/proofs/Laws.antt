@@ -12,7 +12,7 @@ use lib.Dec.{eqb}
 use borrow.Author.Tests.{eqb-true}
 use Rattle.model.specs.declared.text.Field.{Field}
 use Rattle.model.specs.declared.text.Word.{Word}
-use Rattle.model.specs.declared.text.Word.the-variants.{Stop, Setc, Copy, Addw, Subw, Mulw, Divf, Load, Stor, Jump, Bltu, Bequ, Leas, Most, Strp, Divm}
+use Rattle.model.specs.declared.text.Word.the-variants.{Stop, Setc, Copy, Addw, Subw, Mulw, Divf, Load, Stor, Jump, Bltu, Bequ, Leas, Most, Strp, Divm, Turn}
 use Rattle.model.specs.declared.text.FoundWord.{FoundWord}
 use Rattle.model.specs.declared.text.FoundWord.the-variants.{Unknown, Known}
 use Rattle.model.specs.declared.answers.Refusal.the-variants.{LineBytes}
@@ -127,6 +127,7 @@ word-taken Leas fs = refl
 word-taken Most fs = refl
 word-taken Strp fs = refl
 word-taken Divm fs = refl
+word-taken Turn fs = refl
 
 -- a line that the reader takes, and why it takes it
 record Read (l : List ℕ) : Type 0 where

@@ -10,7 +10,7 @@ use borrow.Author.Tests.{leb-true, leb-false, le-leb, eq-eqb, ne-eqb}
 use Rattle.model.specs.Lists.{everyBelow}
 use Rattle.model.specs.declared.text.Field.{Field}
 use Rattle.model.specs.declared.text.Word.{Word}
-use Rattle.model.specs.declared.text.Word.the-variants.{Stop, Setc, Copy, Addw, Subw, Mulw, Divf, Load, Stor, Jump, Bltu, Bequ, Leas, Most, Strp, Divm}
+use Rattle.model.specs.declared.text.Word.the-variants.{Stop, Setc, Copy, Addw, Subw, Mulw, Divf, Load, Stor, Jump, Bltu, Bequ, Leas, Most, Strp, Divm, Turn}
 use Rattle.model.specs.Text.{fieldOf}
 use Rattle.model.specs.Words.{textOf, begins}
 use Rattle.model.specs.Lines.{printable, wellSpelled, columnOf, widthOf, fieldAt, lineSet}
@@ -39,6 +39,7 @@ word-printable Leas = refl
 word-printable Most = refl
 word-printable Strp = refl
 word-printable Divm = refl
+word-printable Turn = refl
 
 -- the bytes of columns that hold a field
 printable-byte : (b : ℕ) → (32 ≤ b) × (b ≤ 57) → printable b ≡ true

@@ -1,4 +1,4 @@
-//! The proved checker, claim lines, setter and runner, as the static libraries offer them to C. Any bytes, sizes and
+//! The proved checker, step bound, claim lines, setter and runner, as the static libraries offer them to C. Any bytes, sizes and
 //! states may be passed.
 
 /// Number 0 and the points for a listing that passes, else the number of the refusal and its places.
@@ -8,6 +8,15 @@ pub struct Answer {
     pub place: u64,
     pub second: u64,
     pub points: u64,
+}
+
+/// Number 0 and the most steps that a routine can need from point 0, else the number of the refusal and its places.
+#[derive(Clone, Copy, Debug, PartialEq, Eq)]
+pub struct StepBound {
+    pub number: u64,
+    pub place: u64,
+    pub second: u64,
+    pub bound: u64,
 }
 
 /// Number 0 and where the claim lines of a point stand in the listing, else the number and the place of the refusal.
@@ -60,6 +69,7 @@ pub struct Outcome {
 
 extern "C" {
     fn rithwellu_check(listing: *const u8, len: usize, answer: *mut u64);
+    fn rithwellu_step_bound(listing: *const u8, len: usize, answer: *mut u64);
     fn rithwellu_print(listing: *const u8, len: usize, line: *mut u8);
     fn rithwellu_claim_lines(listing: *const u8, len: usize, point: usize, answer: *mut u64);
     fn rithwellu_set_line(
@@ -106,6 +116,15 @@ pub fn check(listing: &[u8]) -> Answer {
     unsafe { rithwellu_check(listing.as_ptr(), listing.len(), answer.as_mut_ptr()) };
     let [number, place, second, points] = answer;
     Answer { number, place, second, points }
+}
+
+/// How many steps a routine needs at most from point 0, in any state that meets its claims.
+pub fn step_bound(listing: &[u8]) -> StepBound {
+    let mut answer = [0; 4];
+    // SAFETY: the library reads `len` bytes of the listing and writes four numbers
+    unsafe { rithwellu_step_bound(listing.as_ptr(), listing.len(), answer.as_mut_ptr()) };
+    let [number, place, second, bound] = answer;
+    StepBound { number, place, second, bound }
 }
 
 /// The line that the program prints for a listing.

@@ -1,7 +1,7 @@
 //! The listings that are timed.
 
 use lines::{listing, LINE};
-use reference::Instruction;
+use reference::{Arithmetic, Claim, Comparison, Instruction, Operand};
 use trials::draft::Draft;
 use trials::families::{guarded_loop, Loop};
 use trials::random::Random;
@@ -31,15 +31,40 @@ pub fn small() -> Vec<u8> {
     ))
 }
 
+/// One loop with a bound on its steps: the sum of all numbers from a register's value down to 1.
+pub fn small_bounded() -> Vec<u8> {
+    let least = "LEAS 1 _ _ _ _ 1;";
+    listing(&format!(
+        "TURN 1; MOST 1 _ _ _ _ 1000; SETC 2 _ _ _ _ 0; BEQU _ 1 _ 5 1 0; {least} ADDW 2 2 _ _ 0 1;
+         {least} SUBW 1 1 _ _ 1 1; JUMP _ _ _ 1; STOP"
+    ))
+}
+
+const OVER_RESULTS: Loop = Loop { index: 0, count: 1, size: 17, scale: 4, room: 2 };
+const SCRATCH: [usize; 4] = [2, 3, 4, 5];
+/// The register that bounds the steps.
+const TURN: usize = 6;
+
 /// A routine of so many points: guarded loops over the results, one after the other.
 pub fn typical(points: usize) -> Vec<u8> {
+    loops(points, plain_loop).text()
+}
+
+/// The same with a bound on its steps, each way back being covered.
+pub fn typical_bounded(points: usize) -> Vec<u8> {
+    let mut draft = loops(points, counted_loop);
+    draft.turn = Some(TURN);
+    draft.points[0].claim(Claim::Most { v: TURN, value: 1000 });
+    draft.text()
+}
+
+/// As many loops as fit into so many points, then steps that do little.
+fn loops(points: usize, add_loop: fn(&mut Random, &mut Draft)) -> Draft {
     let mut random = Random::new(points as u64);
-    let over = Loop { index: 0, count: 1, size: 17, scale: 4, room: 2 };
-    let scratch = [2, 3, 4, 5];
     let mut draft = Draft::default();
     loop {
         let mut longer = draft.clone();
-        guarded_loop(&mut random, &mut longer, &over, &scratch, 4);
+        add_loop(&mut random, &mut longer);
         if longer.points.len() >= points {
             break;
         }
@@ -50,7 +75,27 @@ pub fn typical(points: usize) -> Vec<u8> {
         draft.push(Instruction::Copy { d: 2, i: 3 }).claims = kept.clone();
     }
     draft.push(Instruction::Stop);
-    draft.text()
+    draft
+}
+
+fn plain_loop(random: &mut Random, draft: &mut Draft) {
+    guarded_loop(random, draft, &OVER_RESULTS, &SCRATCH, 4);
+}
+
+/// A plain loop that is also left where the TURN register is 0, and makes it smaller right before it goes back.
+fn counted_loop(random: &mut Random, draft: &mut Draft) {
+    let out = draft.points.len() + 2;
+    plain_loop(random, draft);
+    let back = draft.points.pop().expect("a loop ends in its way back");
+    let end = draft.points.len() + 3;
+    draft.points[out].instruction = Instruction::Jump { target: end };
+    let spent = Instruction::Branch { kind: Comparison::Equal, i: TURN, target: end, o: Operand::Number(0) };
+    draft.push(spent).claims = back.claims.clone();
+    let smaller = Instruction::Compute { kind: Arithmetic::Subtract, d: TURN, i: TURN, o: Operand::Number(1) };
+    let point = draft.push(smaller);
+    point.claims = back.claims.clone();
+    point.claim(Claim::Least { v: TURN, value: 1 });
+    draft.points.push(back);
 }
 
 /// As many points as fit, in threes: a remainder by a number, a store at the place that it gives, and a remainder by a

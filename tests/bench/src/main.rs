@@ -1,5 +1,5 @@
-//! Times the proved checker, setter and runner against the twin in plain Rust, in the same process and in turns, and
-//! prints ratios.
+//! Times the proved checker, step bound, setter and runner against the twin in plain Rust, in the same process and in
+//! turns, and prints ratios.
 
 mod listings;
 mod rows;
@@ -7,7 +7,7 @@ mod runs;
 mod set_lines;
 mod timing;
 
-use listings::{longest, remainders, small, typical, worst, KeyLink};
+use listings::{longest, remainders, small, small_bounded, typical, typical_bounded, worst, KeyLink};
 use reference::refusals::RUNS_OFF_THE_END;
 use rows::{print_row, Rows};
 use timing::ratio;
@@ -24,6 +24,7 @@ fn main() {
     println!("all rounds, least, middle and greatest");
     print_checks(&mut rows);
     print_checks_by_points(&mut rows);
+    print_step_bounds(&mut rows);
     print_claim_lines(&mut rows);
     set_lines::print_set_lines(&mut rows);
     runs::print_runs(&mut rows);
@@ -63,6 +64,26 @@ fn print_check(name: &str, listing: &[u8], expected: u64) {
     assert_eq!(twin::check(listing).number, expected, "{name}: the twin");
     assert_eq!(archive::check(listing).number, expected, "{name}: the archive");
     let measured = ratio(&|| archive::check(listing).place, &|| twin::check(listing).place);
+    print_row(name, listing.len() / lines::LINE, &measured);
+}
+
+fn print_step_bounds(rows: &mut Rows) {
+    let listings = [("bound, small, 6 points", small_bounded()), ("bound, typical, 512 points", typical_bounded(512))];
+    rows.table("bounds on steps, each with its check", "lines");
+    for (name, listing) in &listings {
+        if rows.want(name) {
+            print_step_bound(name, listing);
+        }
+    }
+}
+
+/// Both give the same bound, with loops, before they are timed.
+fn print_step_bound(name: &str, listing: &[u8]) {
+    let bound_by_twin = || twin::step_bound(listing).unwrap_or(0);
+    let (one, other) = (archive::step_bound(listing), bound_by_twin());
+    assert_eq!((one.number, one.bound), (PASSES, other), "{name}: {one:?}");
+    assert!(other > twin::check(listing).points, "{name}: {other}");
+    let measured = ratio(&|| archive::step_bound(listing).bound, &bound_by_twin);
     print_row(name, listing.len() / lines::LINE, &measured);
 }
 

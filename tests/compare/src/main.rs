@@ -1,9 +1,12 @@
-//! Compares the proved checker and the claim lines of points with the reference on families of listings, the proved
-//! setter on families of calls, and the program with the examples. What is set is read, and what is read is set again.
+//! Compares the proved checker, the bounds of steps and the claim lines of points with the reference on families of
+//! listings, the proved setter on families of calls, and the program with the examples. Routines keep to their bounds.
+//! What is set is read, and what is read is set again.
 //! Counted are: each family, each of the two laws, each example, and that no answer is rare.
 
+mod bounds;
 mod set_lines;
 
+use bounds::compare_step_bounds;
 use reference::Answer;
 use set_lines::{compare_set_lines, try_laws};
 use std::fs;
@@ -15,14 +18,15 @@ use trials::{all, compare, of_columns, of_reference, Count, Family, Tally, Verdi
 fn main() -> ExitCode {
     let mut count = Count::default();
     compare_families(&mut count);
+    compare_step_bounds(&mut count);
     compare_claim_lines(&mut count);
     compare_set_lines(&mut count);
     try_laws(&mut count);
     try_examples(&mut count);
     println!(
-        "counted: each family of listings for the checker and for claim lines, each family of calls that set a line,"
+        "counted: each family of listings for the checker, for bounds and for claim lines, each family of calls that"
     );
-    println!("for each of the three once that no answer is rare, each of the two laws, and each example");
+    println!("set a line, for each of the four once that no answer is rare, each of the two laws, and each example");
     count.finish()
 }
 

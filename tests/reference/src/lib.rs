@@ -1,6 +1,7 @@
-//! A second checker, setter and runner for listings, written from the papers alone to be compared with the proved one.
+//! A second checker, step bound, setter and runner for listings, written from the papers alone to be compared with the proved one.
 //! It is meant to be obviously right: whole numbers are `i128`, every rule stands once, nothing is tuned.
 
+mod bound;
 mod checker;
 mod edges;
 mod follows;
@@ -14,6 +15,7 @@ pub mod refusals;
 mod runner;
 mod set;
 
+pub use bound::step_bound;
 pub use checker::{check, Answer};
 pub use edges::{edges, Edge};
 pub use follows::{goal_follows, LINKS};

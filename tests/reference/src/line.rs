@@ -57,6 +57,28 @@ pub enum Instruction {
 }
 
 impl Instruction {
+    /// The point that it may go to, if it jumps or branches.
+    pub fn target(&self) -> Option<usize> {
+        match *self {
+            Instruction::Jump { target } | Instruction::Branch { target, .. } => Some(target),
+            _ => None,
+        }
+    }
+
+    /// The registers that it writes.
+    pub fn written(&self) -> Vec<usize> {
+        match *self {
+            Instruction::Stop | Instruction::Store { .. } | Instruction::Jump { .. } | Instruction::Branch { .. } => {
+                vec![]
+            }
+            Instruction::Set { d, .. }
+            | Instruction::Copy { d, .. }
+            | Instruction::Compute { d, .. }
+            | Instruction::Load { d, .. } => vec![d],
+            Instruction::DivMod { q, r, .. } => vec![q, r],
+        }
+    }
+
     /// What it divides by, if it divides.
     pub fn divisor(&self) -> Option<Operand> {
         match *self {
@@ -83,8 +105,10 @@ pub enum Claim {
     Stripe(Stripe),
 }
 
+/// `Turn` names a register and claims nothing.
 #[derive(Clone, Copy, Debug, PartialEq, Eq)]
 pub enum Line {
+    Turn(usize),
     Claim(Claim),
     Instruction(Instruction),
 }
@@ -147,6 +171,7 @@ fn fields_due(word: &[u8]) -> Option<[Due; 6]> {
         b"BLTU" | b"BEQU" => [No, Yes, No, Yes, Yes, Yes],
         b"LEAS" | b"MOST" => [Yes, No, No, No, No, Yes],
         b"STRP" => [Yes, Yes, Yes, May, No, Signed],
+        b"TURN" => [Yes, No, No, No, No, No],
         _ => return None,
     })
 }
@@ -186,6 +211,7 @@ fn signed(text: &[u8]) -> Option<Whole> {
 /// The meaning of well-shaped fields, or none where a number is outside its limits.
 fn meaning(word: &[u8], f: &Numbers) -> Option<Line> {
     match word {
+        b"TURN" => register(f[0]).map(Line::Turn),
         b"LEAS" | b"MOST" | b"STRP" => claim(word, f).map(Line::Claim),
         _ => instruction(word, f).map(Line::Instruction),
     }

@@ -43,8 +43,10 @@ pub struct Point {
     pub claims: Vec<ClaimLine>,
 }
 
+/// The points, and the register of the TURN line if there is one.
 #[derive(Clone, Debug)]
 pub struct Listing {
+    pub turn: Option<usize>,
     pub points: Vec<Point>,
 }
 
@@ -54,6 +56,7 @@ pub fn read(bytes: &[u8]) -> Result<Listing, Refusal> {
         return Err(Refusal::new(BAD_LENGTH, 0));
     }
     let last_line = (bytes.len() / LINE_BYTES) as u64;
+    let mut turn = None;
     let mut points: Vec<Point> = Vec::new();
     let mut claims: Vec<ClaimLine> = Vec::new();
     for (index, bytes) in bytes.chunks(LINE_BYTES).enumerate() {
@@ -62,24 +65,25 @@ pub fn read(bytes: &[u8]) -> Result<Listing, Refusal> {
             Line::Instruction(instruction) => {
                 points.push(Point { instruction, line, claims: std::mem::take(&mut claims) });
             }
+            Line::Turn(register) if line == 1 => turn = Some(register),
             Line::Claim(claim) if in_order(&claims, &claim) => claims.push(ClaimLine { claim, line }),
-            Line::Claim(_) => return Err(Refusal::new(BAD_ORDER, line)),
+            Line::Turn(_) | Line::Claim(_) => return Err(Refusal::new(BAD_ORDER, line)),
         }
     }
-    if !claims.is_empty() {
+    if points.last().is_none_or(|point| point.line != last_line) {
         return Err(Refusal::new(ENDS_IN_CLAIM, last_line));
     }
     if points.len() > MOST_POINTS {
         return Err(Refusal::new(TOO_MANY_POINTS, points[MOST_POINTS].line));
     }
     well_formed(&points, last_line)?;
-    Ok(Listing { points })
+    Ok(Listing { turn, points })
 }
 
 /// Refusals 9 to 11.
 fn well_formed(points: &[Point], last_line: u64) -> Result<(), Refusal> {
     for point in points {
-        if target(&point.instruction).is_some_and(|target| target >= points.len()) {
+        if point.instruction.target().is_some_and(|target| target >= points.len()) {
             return Err(Refusal::new(NO_SUCH_TARGET, point.line));
         }
     }
@@ -91,13 +95,6 @@ fn well_formed(points: &[Point], last_line: u64) -> Result<(), Refusal> {
         return Err(Refusal::new(EMPTY_START, points[0].line));
     }
     Ok(())
-}
-
-fn target(instruction: &Instruction) -> Option<usize> {
-    match *instruction {
-        Instruction::Jump { target } | Instruction::Branch { target, .. } => Some(target),
-        _ => None,
-    }
 }
 
 /// Whether the claim may follow the claims already standing before the same instruction.
@@ -117,14 +114,16 @@ fn stripes(claims: &[ClaimLine]) -> usize {
     claims.iter().filter(|line| matches!(line.claim, Claim::Stripe(_))).count()
 }
 
-/// Where the claim lines of a point stand: from the first of them up to its instruction.
+/// Where the claim lines of a point stand: all lines between the instruction before it and its own. A TURN line is one
+/// of point 0's.
 pub fn claim_span(bytes: &[u8], point: u64) -> Result<Range<usize>, Refusal> {
     let listing = read(bytes)?;
-    let found = usize::try_from(point).ok().and_then(|point| listing.points.get(point));
-    let Some(found) = found else { return Err(Refusal::new(NO_SUCH_POINT, 0)) };
+    let Some(at) = usize::try_from(point).ok().filter(|&at| at < listing.points.len()) else {
+        return Err(Refusal::new(NO_SUCH_POINT, 0));
+    };
     let start_of = |line: u64| (line as usize - 1) * LINE_BYTES;
-    let first = found.claims.first().map_or(found.line, |claim| claim.line);
-    Ok(start_of(first)..start_of(found.line))
+    let first = if at == 0 { 1 } else { listing.points[at - 1].line + 1 };
+    Ok(start_of(first)..start_of(listing.points[at].line))
 }
 
 /// The part of the listing that holds the claim lines of a point, empty where there are none.

@@ -38,3 +38,5 @@ pub const CLAIMS_NOT_MET: u64 = 17;
 pub const NO_SUCH_LINE: u64 = 18;
 /// One register for both the quotient and the remainder.
 pub const ONE_REGISTER_TWICE: u64 = 19;
+/// A way back that no count bounds.
+pub const WAY_BACK_NOT_COVERED: u64 = 20;

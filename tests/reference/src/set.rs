@@ -74,6 +74,7 @@ fn wanted(word: &[u8]) -> Option<[Wanted; 6]> {
         b"BLTU" | b"BEQU" => Some([Blank, Variable, Blank, Target, Choice, Operand]),
         b"LEAS" | b"MOST" => Some([Variable, Blank, Blank, Blank, Blank, RangeEnd]),
         b"STRP" => Some([Variable, Scale, Variable, VariableOrBlank, Blank, Bound]),
+        b"TURN" => Some([Register, Blank, Blank, Blank, Blank, Blank]),
         _ => None,
     }
 }

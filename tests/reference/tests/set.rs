@@ -66,6 +66,8 @@ fn sets_a_line_of_every_word() {
         "MOST 15 _ _ _ _ 65537",
         "STRP 1 2 3 _ _ 5",
         "STRP 1 2 3 17 _ -1",
+        "TURN 0",
+        "TURN 15",
     ];
     for model in models {
         let line = listing(model);
@@ -82,7 +84,7 @@ fn sets_a_line_of_every_word() {
 }
 
 #[test]
-fn a_word_is_four_bytes_of_one_of_sixteen() {
+fn a_word_is_four_bytes_of_one_of_seventeen() {
     for word in ["", "STO", "STOP ", "STOPSTOP", "stop", "STOp", " STO", "    ", "STOQ", "STO\n"] {
         assert_eq!(answer(word.as_bytes(), STOP, 2, 80), (3, 2), "{word:?}");
     }

@@ -3,7 +3,7 @@
 
 mod painted;
 
-use archive::{check, claim_part, printed, run, run_in_place, set_line, Field, State};
+use archive::{check, claim_part, printed, run, run_in_place, set_line, step_bound, Field, State};
 use lines::listing;
 use painted::stack_of;
 use std::hint::black_box;
@@ -12,12 +12,16 @@ use trials::random::Random;
 
 const ROUTINES: u64 = 40;
 const BUDGET: u32 = 1000;
+/// Loops of three points, before the last point.
+const MOST_LOOPS: usize = (512 - 1) / 3;
 
-/// The listings: the smallest, one turned back by its text, one with goals that take all links, the longest, and routines.
+/// The listings: the smallest, one turned back by its text, one with goals that take all links, the longest, routines,
+/// and loops with a bound.
 fn listings() -> Vec<Vec<u8>> {
     let mut listings = vec![vec![], listing("STOP"), listing("STOP").repeat(1638), vec![b'?'; 65_520], links()];
     listings.extend((0..ROUTINES).map(|seed| routine(&mut Random::new(seed)).text()));
     listings.push(full());
+    listings.push(counted());
     listings
 }
 
@@ -34,6 +38,16 @@ fn full() -> Vec<u8> {
     let point = listing(&format!("{kept} STOR 2 4 _ 1 1 0;"));
     let last = listing(&format!("{kept} JUMP _ _ _ 0"));
     [point.repeat(511), last].concat()
+}
+
+/// As many loops as fit, each counting the TURN register down: all ways back are covered.
+fn counted() -> Vec<u8> {
+    let one = |head: usize| {
+        let end = head + 3;
+        listing(&format!("BEQU _ 1 _ {end} 1 0; LEAS 1 _ _ _ _ 1; SUBW 1 1 _ _ 1 1; JUMP _ _ _ {head}"))
+    };
+    let loops: Vec<u8> = (0..MOST_LOOPS).flat_map(|at| one(3 * at)).collect();
+    [listing("TURN 1"), loops, listing("STOP")].concat()
 }
 
 /// The greatest stack over all listings.
@@ -66,6 +80,7 @@ fn main() {
     for deep in [links(), full()] {
         assert_eq!(check(&deep).number, 0, "the deep listings pass");
     }
+    assert_eq!(step_bound(&counted()).number, 0, "the loops have a bound");
     let state = State { point: 0, registers: [0; 16] };
     let in_place = |listing: &[u8]| {
         let mut state = state;
@@ -73,6 +88,7 @@ fn main() {
     };
     println!("bytes of stack, the greatest over {} listings", listings().len());
     println!("{:>8} check", greatest(check));
+    println!("{:>8} step_bound", greatest(step_bound));
     println!("{:>8} print", greatest(printed));
     println!("{:>8} claim_lines", greatest(|listing| claim_part(listing, 0)));
     println!("{:>8} set_line, the widest numbers", stack_of(&set_widest));

@@ -11,8 +11,10 @@ pub struct DraftPoint {
     pub instruction: Instruction,
 }
 
+/// Points, and the register of a TURN line in front of them if there is one.
 #[derive(Clone, Debug, Default)]
 pub struct Draft {
+    pub turn: Option<usize>,
     pub points: Vec<DraftPoint>,
 }
 
@@ -57,7 +59,7 @@ impl Draft {
     }
 
     pub fn text(&self) -> Vec<u8> {
-        let mut text = Vec::new();
+        let mut text: Vec<u8> = self.turn.iter().flat_map(|&register| turn_line(register)).collect();
         for point in &self.points {
             point.claims.iter().for_each(|claim| text.extend(claim_line(claim)));
             text.extend(instruction_line(&point.instruction));
@@ -65,9 +67,10 @@ impl Draft {
         text
     }
 
-    /// The point of a line, counted from 1, and the claim's index there; none for the instruction's own line.
+    /// The point of a line, counted from 1, and the claim's index there; none for the instruction's own line. A TURN line
+    /// is no point's here.
     pub fn at_line(&self, line: u64) -> (usize, Option<usize>) {
-        let mut rest = line as usize - 1;
+        let mut rest = line as usize - 1 - usize::from(self.turn.is_some());
         for (index, point) in self.points.iter().enumerate() {
             if rest < point.claims.len() {
                 return (index, Some(rest));
@@ -87,7 +90,11 @@ pub fn draft_of(listing: &Listing) -> Draft {
         claims: point.claims.iter().map(|line| line.claim).collect(),
         instruction: point.instruction,
     };
-    Draft { points: listing.points.iter().map(point).collect() }
+    Draft { turn: listing.turn, points: listing.points.iter().map(point).collect() }
+}
+
+pub fn turn_line(register: usize) -> [u8; 40] {
+    line("TURN", [Some(register as Whole), None, None, None, None, None])
 }
 
 pub fn claim_line(claim: &Claim) -> [u8; 40] {
@@ -150,7 +157,7 @@ mod tests {
     #[test]
     fn a_draft_of_a_listing_has_its_text() {
         let text = lines::listing(
-            "LEAS 16 _ _ _ _ 4; MOST 1 _ _ _ _ 0; STRP 17 4 1 _ _ -3; LOAD 2 2 0 1 1 0; SETC 1 _ _ _ _ 7;
+            "TURN 7; LEAS 16 _ _ _ _ 4; MOST 1 _ _ _ _ 0; STRP 17 4 1 _ _ -3; LOAD 2 2 0 1 1 0; SETC 1 _ _ _ _ 7;
              COPY 3 17; MULW 3 4 _ _ 0 2; DIVM 4 17 5 _ 1 6; BEQU _ 3 _ 1 1 9; STRP 0 1 2 3 _ 8; STOR 17 4 _ 255 0 65535; JUMP _ _ _ 0",
         );
         assert_eq!(draft_of(&reference::read(&text).unwrap()).text(), text);
@@ -164,9 +171,13 @@ mod tests {
         point.claim(Claim::Least { v: 4, value: 0 });
         point.claim(Claim::Least { v: 2, value: 0 });
         point.claim(Claim::Least { v: 2, value: 1 });
-        let draft = Draft { points: vec![point] };
+        let draft = Draft { turn: None, points: vec![point] };
         assert_eq!(reference::check(&draft.text()).points, 1);
         assert_eq!(draft.at_line(3), (0, Some(2)));
         assert_eq!(draft.at_line(5), (0, None));
+        let draft = Draft { turn: Some(3), ..draft };
+        assert_eq!(reference::check(&draft.text()).points, 1);
+        assert_eq!(draft.at_line(4), (0, Some(2)));
+        assert_eq!(draft.at_line(6), (0, None));
     }
 }

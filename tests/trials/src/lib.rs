@@ -1,6 +1,7 @@
-//! Listings, lines and runs from fixed seeds, and the comparison of checkers, of claim lines, of setters and of runners on
-//! them: where they differ, the smallest listing or call that still shows it, or the first call.
+//! Listings, lines and runs from fixed seeds, and the comparison of checkers, of bounds, of claim lines, of setters and of
+//! runners on them: where they differ, the smallest listing or call that still shows it, or the first call.
 
+pub mod bounds;
 pub mod claim_lines;
 pub mod comparison;
 pub mod count;

@@ -22,6 +22,7 @@ pub fn shrink(listing: &[u8], keeps: Keeps) -> Vec<u8> {
     loop {
         let before = smallest.clone();
         drop_lines(&mut smallest, keeps);
+        drop_equal_claims(&mut smallest, keeps);
         drop_last_bytes(&mut smallest, keeps);
         blank_fields(&mut smallest, keeps);
         lower_numbers(&mut smallest, keeps);
@@ -57,6 +58,15 @@ fn drop_lines(smallest: &mut Vec<u8>, keeps: Keeps) {
     }
 }
 
+/// Drops a claim at all points at once, since what leads to one of them may owe it.
+fn drop_equal_claims(smallest: &mut Vec<u8>, keeps: Keeps) {
+    let claims: BTreeSet<Vec<u8>> = smallest.chunks(LINE).filter(|line| is_claim(line)).map(<[u8]>::to_vec).collect();
+    for claim in claims {
+        let candidate = smallest.chunks(LINE).filter(|line| *line != claim).collect::<Vec<_>>().concat();
+        take(smallest, candidate, keeps);
+    }
+}
+
 fn without(listing: &[u8], at: usize, run: usize) -> Vec<u8> {
     let end = ((at + run) * LINE).min(listing.len());
     [&listing[..at * LINE], &listing[end..]].concat()
@@ -83,7 +93,7 @@ fn retargeted(listing: &[u8], at: usize, run: usize) -> Vec<u8> {
 
 /// Whether this is a whole line with a claim's word.
 pub fn is_claim(line: &[u8]) -> bool {
-    line.len() == LINE && matches!(&line[..4], b"LEAS" | b"MOST" | b"STRP")
+    line.len() == LINE && matches!(&line[..4], b"TURN" | b"LEAS" | b"MOST" | b"STRP")
 }
 
 fn drop_last_bytes(smallest: &mut Vec<u8>, keeps: Keeps) {
@@ -205,6 +215,13 @@ mod tests {
             lines.len() >= 2 && lines[0].starts_with(b"LEAS") && lines[0][4..] == lines[1][4..] && lines[0][7] != b' '
         };
         assert_eq!(shrink(&long, &keeps), listing("LEAS 0 _ _ _ _ 0; SETC 0 _ _ _ _ 0"));
+    }
+
+    #[test]
+    fn a_claim_at_every_point_goes_at_once() {
+        let long = listing("MOST 1 _ _ _ _ 5; COPY 2 3; MOST 1 _ _ _ _ 5; JUMP _ _ _ 0");
+        let passes = |listing: &[u8]| reference::check(listing).points == 2;
+        assert_eq!(shrink(&long, &passes), listing("COPY 0 0; JUMP _ _ _ 0"));
     }
 
     #[test]

@@ -29,7 +29,8 @@ fn every_answer_comes_up_often_enough() {
     assert_eq!(whole.rare(), Vec::<&str>::new());
 }
 
-const ROUTINES: [&str; 2] = ["routines that pass, with loops and stripes", "routines that divide with remainder"];
+const ROUTINES: [&str; 3] =
+    ["routines that pass, with loops and stripes", "routines that divide with remainder", "loops that count down"];
 
 #[test]
 fn routines_pass() {

@@ -3,8 +3,10 @@
 mod mended;
 
 use mended::mended;
-use reference::refusals::ONE_REGISTER_TWICE;
-use reference::{read, step, Arithmetic, Instruction, Operand, Outcome, Refusal, State, Step, MAX};
+use reference::refusals::{ONE_REGISTER_TWICE, UNKNOWN_WORD};
+use reference::{
+    check, read, step, step_bound, Arithmetic, Instruction, Operand, Outcome, Refusal, Run, State, Step, MAX,
+};
 use trials::runs::{all_runs, compare_runs, After, Call, RunDifference};
 
 /// The first difference between the reference and a wrong runner, in the family whose name has this part.
@@ -139,6 +141,28 @@ fn writes_trays(call: &Call) -> After {
         *byte ^= 1;
     }
     after
+}
+
+/// A runner that does not know the word TURN.
+fn knows_no_turn(call: &Call) -> After {
+    let mut after = call.by_reference();
+    if call.listing.starts_with(b"TURN") {
+        let refusal = Refusal { number: UNKNOWN_WORD, place: 1, second: 0 };
+        after.run = Run { outcome: Outcome::Refused(refusal), state: call.state, steps: 0 };
+        after.results = call.results.clone();
+    }
+    after
+}
+
+/// No run longer than a round less than a bound of several rounds.
+fn a_round_less(call: &Call) -> After {
+    let points = check(&call.listing).points;
+    match step_bound(&call.listing) {
+        Ok(bound) if bound > points && u64::from(call.budget) > bound - points => {
+            Call { budget: (bound - points) as u32, ..call.clone() }.by_reference()
+        }
+        _ => call.by_reference(),
+    }
 }
 
 #[test]
@@ -323,4 +347,16 @@ fn a_refusal_without_its_line_is_found() {
     };
     let difference = found("one register for quotient and remainder", &no_place);
     assert_eq!((lines_of(&difference), difference.call.budget), (1, 0));
+}
+
+#[test]
+fn a_listing_under_a_turn_line_refused_is_found() {
+    let difference = found("loops that count down, from any point", &knows_no_turn);
+    assert_eq!(lines_of(&difference), 1);
+}
+
+/// With the bound as budget, some runs end in its last round.
+#[test]
+fn a_run_that_ends_a_round_before_its_bound_is_found() {
+    found("with their bound and a round less", &a_round_less);
 }

@@ -1,7 +1,7 @@
 //! A setter that is wrong on purpose is found out, by the comparison or by a law.
 
 use lines::{FIELDS, LINE};
-use reference::refusals::{BAD_SHAPE, NO_SUCH_LINE, ONE_REGISTER_TWICE, OUT_OF_LIMITS, UNKNOWN_WORD};
+use reference::refusals::{BAD_ORDER, BAD_SHAPE, NO_SUCH_LINE, ONE_REGISTER_TWICE, OUT_OF_LIMITS, UNKNOWN_WORD};
 use trials::set_lines::{
     compare_setters, lines_come_back, set_by_reference, set_families, set_lines_are_read, SetAfter, SetCall,
     SetDifference, BLANK, NEGATIVE, NUMBER,
@@ -194,6 +194,34 @@ fn place_0_in_19(call: &SetCall) -> SetAfter {
     after
 }
 
+/// TURN with a variable in place of a register.
+fn turn_of_a_size(call: &SetCall) -> SetAfter {
+    let mut after = set_by_reference(call);
+    let size = call.word == b"TURN" && call.kinds[0] == NUMBER && matches!(call.numbers[0], 16 | 17);
+    if after.number == OUT_OF_LIMITS && size {
+        let model = with(call, &|call| call.numbers[0] = 10);
+        (after.number, after.place) = (model.number, model.place);
+    }
+    after
+}
+
+/// 6 for a TURN line that is not the first.
+fn turn_on_line_1_alone(call: &SetCall) -> SetAfter {
+    let after = set_by_reference(call);
+    if after.number != 0 || call.word != b"TURN" || call.line == 1 {
+        return after;
+    }
+    SetAfter { number: BAD_ORDER, place: call.line, listing: call.listing.clone() }
+}
+
+fn no_turn(call: &SetCall) -> SetAfter {
+    with(call, &|call| {
+        if call.word == b"TURN" {
+            call.word = b"turn".to_vec();
+        }
+    })
+}
+
 #[test]
 fn a_line_looked_for_too_soon_is_found() {
     let (left, right) = numbers_of(&found(&line_first));
@@ -309,4 +337,15 @@ fn registers_compared_for_other_words_are_found() {
 fn registers_without_the_line_given_are_found() {
     let difference = found(&place_0_in_19);
     assert_eq!((difference.left.place, difference.right.place), (difference.call.line, 0));
+}
+
+#[test]
+fn a_turn_line_that_is_not_set_is_found() {
+    assert_eq!(numbers_of(&found(&no_turn)).1, UNKNOWN_WORD);
+    assert_eq!(numbers_of(&found(&turn_on_line_1_alone)), (0, BAD_ORDER));
+}
+
+#[test]
+fn a_turn_line_of_a_size_is_found() {
+    assert_eq!(numbers_of(&found(&turn_of_a_size)).0, OUT_OF_LIMITS);
 }

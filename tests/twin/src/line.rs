@@ -1,6 +1,8 @@
-//! One line of 40 bytes: the instruction or the claim it holds, or the number of its refusal, 2 to 5 or 19.
+//! One line of 40 bytes: the instruction or the claim it holds, or the number of its refusal, 2 to 5 or 19. A TURN that
+//! is right is refused by 6 here, and let pass on the first line by who reads the listing. What a TURN needs is kept
+//! cold, so that other lines do not pay for it.
 
-use reference::refusals::{BAD_BYTE, BAD_SHAPE, ONE_REGISTER_TWICE, OUT_OF_LIMITS, UNKNOWN_WORD};
+use reference::refusals::{BAD_BYTE, BAD_ORDER, BAD_SHAPE, ONE_REGISTER_TWICE, OUT_OF_LIMITS, UNKNOWN_WORD};
 
 pub const LINE: usize = 40;
 pub const MAX: u64 = u32::MAX as u64;
@@ -82,6 +84,7 @@ const LEAS: u32 = word(b"LEAS");
 const MOST: u32 = word(b"MOST");
 pub const STRP: u32 = word(b"STRP");
 const DIVM: u32 = word(b"DIVM");
+const TURN: u32 = word(b"TURN");
 
 /// Which fields must be filled, a bit each from F1 up; STRP's F4 may be either.
 #[inline]
@@ -97,8 +100,13 @@ pub fn due(word: u32) -> Option<u8> {
         BLTU | BEQU => 0b111010,
         STRP => 0b100111,
         DIVM => 0b110111,
-        _ => return None,
+        _ => return turn_due(word),
     })
+}
+
+#[cold]
+fn turn_due(word: u32) -> Option<u8> {
+    (word == TURN).then_some(0b000001)
 }
 
 pub const STRIPE_Z: u8 = 0b001000;
@@ -200,9 +208,31 @@ pub fn meaning(word: u32, fields: &Fields) -> Taken<Line> {
         JUMP => Instruction::Jump { target: target(f[3])? },
         BLTU => Instruction::Less { i: variable(f[1])?, target: target(f[3])?, o: operand(f)? },
         BEQU => Instruction::Equal { i: variable(f[1])?, target: target(f[3])?, o: operand(f)? },
-        _ => div_mod(f)?,
+        DIVM => div_mod(f)?,
+        _ => return Err(turn_refusal(f)),
     };
     Ok(Line::Instruction(instruction))
+}
+
+#[cold]
+fn turn_refusal(f: &[u64; 6]) -> u64 {
+    register(f[0]).err().unwrap_or(BAD_ORDER)
+}
+
+/// Whether the fields of a line to be set, filled as is due, are right. Where a TURN may stand is not asked.
+#[inline]
+pub fn settable(word: u32, fields: &Fields) -> Taken<()> {
+    match meaning(word, fields) {
+        Err(BAD_ORDER) | Ok(_) => Ok(()),
+        Err(number) => Err(number),
+    }
+}
+
+/// The register of a TURN on the first line of a text that has been read. Inlined it would slow the reader down.
+#[inline(never)]
+pub fn turn_register(text: &[u8]) -> Option<u8> {
+    let columns = text.strip_prefix(b"TURN")?.first_chunk()?;
+    read_short(*columns).map(|number| number as u8)
 }
 
 #[inline]

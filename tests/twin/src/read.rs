@@ -2,7 +2,7 @@
 //! Refusals 1 to 11 and 19.
 
 use crate::facts::Facts;
-use crate::line::{read_line, Claim, Instruction, Line, LINE};
+use crate::line::{read_line, turn_register, Claim, Instruction, Line, LINE};
 use crate::Answer;
 use reference::refusals::{
     BAD_LENGTH, BAD_ORDER, EMPTY_START, ENDS_IN_CLAIM, NO_SUCH_TARGET, RUNS_OFF_THE_END, TOO_MANY_POINTS,
@@ -12,7 +12,7 @@ const LONGEST: usize = 65_520;
 const MOST_STRIPES: u8 = 8;
 
 pub const MOST_LINES: usize = LONGEST / LINE;
-const MOST_POINTS: usize = 512;
+pub const MOST_POINTS: usize = 512;
 const FEW_LINES: usize = 64;
 
 /// An instruction, its line counted from 0, and how many claim lines stand before it.
@@ -23,11 +23,12 @@ pub struct Point {
     pub claims: u16,
 }
 
-/// A listing that has been read: its points in order, and its claims by their lines.
+/// A listing that has been read: its points in order, its claims by their lines, and the register of its TURN.
 #[derive(Clone, Copy)]
 pub struct Listing<'a> {
     pub points: &'a [Point],
     claims: &'a [Claim],
+    pub turn: Option<u8>,
 }
 
 /// Where the claims before one instruction have come to.
@@ -42,6 +43,7 @@ struct Order {
 const STRIPE_RANK: u8 = 2;
 
 const NO_POINT: Point = Point { instruction: Instruction::Stop, line: 0, claims: 0 };
+/// It says nothing and follows from everything, so it may stand for a TURN.
 const NO_CLAIM: Claim = Claim::Least { v: 0, value: 0 };
 
 /// Calls with arrays for the points and the claims of a listing. A short one gets small arrays, so that it does not
@@ -68,7 +70,9 @@ pub fn read<'a>(text: &[u8], points: &'a mut [Point], claims: &'a mut [Claim]) -
         return Err(Answer::refused(BAD_LENGTH, 0));
     }
     let count = read_lines(text, points, claims)?;
-    let listing = Listing { points: &points[..count], claims };
+    let turn = turn_register(text);
+    points[0].claims += u16::from(turn.is_some());
+    let listing = Listing { points: &points[..count], claims, turn };
     targets_exist(listing.points)?;
     let (first, last) = (&listing.points[0], &listing.points[count - 1]);
     if !matches!(last.instruction, Instruction::Stop | Instruction::Jump { .. }) {
@@ -80,16 +84,17 @@ pub fn read<'a>(text: &[u8], points: &'a mut [Point], claims: &'a mut [Claim]) -
     Ok(listing)
 }
 
-/// Refusals 2 to 8 and 19; the number of points where there is none.
+/// Refusals 2 to 8 and 19; the number of points where there is none. A TURN is not yet counted among the claims of
+/// point 0, so that any claim may come after it.
 fn read_lines(text: &[u8], points: &mut [Point], claims: &mut [Claim]) -> Result<usize, Answer> {
     let (mut count, mut order, mut surplus) = (0, Order::default(), 0);
     for (at, line) in text.as_chunks::<LINE>().0.iter().enumerate() {
-        match read_line(line).map_err(|number| Answer::refused(number, at + 1))? {
-            Line::Claim(claim) => {
+        match read_line(line) {
+            Ok(Line::Claim(claim)) => {
                 order = order.after(&claim).ok_or(Answer::refused(BAD_ORDER, at + 1))?;
                 claims[at] = claim;
             }
-            Line::Instruction(instruction) => {
+            Ok(Line::Instruction(instruction)) => {
                 if count < points.len() {
                     points[count] = Point { instruction, line: at as u16, claims: order.claims };
                     count += 1;
@@ -98,9 +103,11 @@ fn read_lines(text: &[u8], points: &mut [Point], claims: &mut [Claim]) -> Result
                 }
                 order = Order::default();
             }
+            Err(BAD_ORDER) if at == 0 => claims[at] = NO_CLAIM,
+            Err(number) => return Err(Answer::refused(number, at + 1)),
         }
     }
-    if order.claims > 0 {
+    if order.claims > 0 || count == 0 {
         return Err(Answer::refused(ENDS_IN_CLAIM, text.len() / LINE));
     }
     if surplus > 0 {

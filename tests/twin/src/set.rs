@@ -1,7 +1,7 @@
 //! Sets one line from its word and fields: the fields are tested with what the reader uses, then written from the right.
 //! Refusals 3 to 5, 19 and 18.
 
-use crate::line::{due, meaning, Fields, LINE, STRIPE_Z, STRP};
+use crate::line::{due, settable, Fields, LINE, STRIPE_Z, STRP};
 use crate::read::MOST_LINES;
 use reference::refusals::{BAD_SHAPE, NO_SUCH_LINE, UNKNOWN_WORD};
 
@@ -46,7 +46,7 @@ fn tested(word: &[u8], kinds: &[u8; 6], numbers: &[u64; 6]) -> Result<([u8; 4], 
     if (fields.filled ^ due) & !optional != 0 || (fields.minus && code != STRP) {
         return Err(BAD_SHAPE);
     }
-    meaning(code, &fields)?;
+    settable(code, &fields)?;
     Ok((word, fields))
 }
 

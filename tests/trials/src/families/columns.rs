@@ -6,7 +6,7 @@ use lines::{listing, LINE};
 /// A line of each word as it may stand, of which one field at a time is overwritten.
 const RIGHT: &str = "STOP; SETC 3 _ _ _ _ 7; COPY 3 4; ADDW 3 4 _ _ 1 7; SUBW 3 4 _ _ 0 7; MULW 3 4 _ _ 1 7;
     DIVF 3 4 _ _ 1 7; LOAD 3 2 1 4 5 6; STOR 3 4 _ 4 5 6; JUMP _ _ _ 0; BLTU _ 3 _ 0 1 7; BEQU _ 3 _ 0 0 7;
-    LEAS 3 _ _ _ _ 7; MOST 17 _ _ _ _ 7; STRP 17 4 3 2 _ -7; DIVM 3 4 5 _ 1 7";
+    LEAS 3 _ _ _ _ 7; MOST 17 _ _ _ _ 7; STRP 17 4 3 2 _ -7; DIVM 3 4 5 _ 1 7; TURN 3";
 /// A space, a minus, the digits at both ends and one between, and a byte that no number has.
 const BYTES: &[u8] = b" -019x";
 const SHORT: usize = 4;

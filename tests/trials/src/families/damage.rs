@@ -21,8 +21,13 @@ const TARGET_FIELD: usize = 3;
 /// One listing for each kind of damage.
 pub fn damaged(random: &mut Random) -> Vec<Vec<u8>> {
     let base = base(random);
+    each_damage(random, &base)
+}
+
+/// The listing with each kind of damage.
+pub fn each_damage(random: &mut Random, listing: &[u8]) -> Vec<Vec<u8>> {
     let spoil = |damage: &Damage| {
-        let mut text = base.clone();
+        let mut text = listing.to_vec();
         damage(random, &mut text);
         text
     };
@@ -68,7 +73,8 @@ pub fn one_register_twice(random: &mut Random) -> Vec<Vec<u8>> {
     vec![text]
 }
 
-fn twice(random: &mut Random) -> [u8; LINE] {
+/// A DIVM with one register for both results.
+pub fn twice(random: &mut Random) -> [u8; LINE] {
     let pool = pieces::pool(random);
     let (q, i, o) = (pool[0], random.pick(&pool), pieces::operand(random, &pool));
     instruction_line(&Instruction::DivMod { q, i, r: q, o })

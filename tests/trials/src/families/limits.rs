@@ -7,7 +7,7 @@ use crate::shrink::write;
 use lines::{listing, FIELDS, LINE};
 use reference::{Claim, Instruction, Stripe};
 
-/// A line of each word but DIVM that is right in every field.
+/// A line of each word but DIVM and TURN that is right in every field.
 const MODELS: [&str; 15] = [
     "STOP",
     "SETC 1 _ _ _ _ 5",
@@ -68,7 +68,8 @@ pub fn fields_of_div_mod(random: &mut Random) -> Vec<Vec<u8>> {
     fields_of(random, model)
 }
 
-fn fields_of(random: &mut Random, model: &str) -> Vec<Vec<u8>> {
+/// The same of a line of one's own.
+pub fn fields_of(random: &mut Random, model: &str) -> Vec<Vec<u8>> {
     let mut line = listing(model);
     if matches!(&line[..4], b"LEAS" | b"MOST") && random.percent(50) {
         write(&mut line, 0, random.pick(&["15", "16", "17"]));

@@ -10,6 +10,9 @@ pub(crate) mod probes;
 pub(crate) mod quotients;
 pub(crate) mod remainders;
 mod routines;
+pub(crate) mod turn_lines;
+pub(crate) mod turns;
+pub(crate) mod ways_back;
 
 pub use routines::{dealing, guarded_loop, routine, Loop};
 
@@ -50,6 +53,30 @@ pub fn of_columns() -> Vec<Family> {
 
 /// Every family of the comparison; together more than 400,000 listings.
 pub fn all() -> Vec<Family> {
+    without_turn().into_iter().chain(under_turn()).collect()
+}
+
+/// Families with TURN lines.
+fn under_turn() -> Vec<Family> {
+    vec![
+        Family::new("loops that count down", 41, 4_000, ways_back::loops),
+        Family::new("loops that count down, one thing changed", 42, 4_000, ways_back::any_change),
+        Family::new("random blocks under a TURN line", 43, 3_000, ways_back::among_blocks),
+        Family::new("TURN on any line", 44, 4_000, turn_lines::any_line),
+        Family::new("fields of TURN at and beside their limits", 45, 2_000, turn_lines::fields),
+        Family::new("loops that count down, damaged", 46, 250, turn_lines::damaged),
+        Family::new("loops that count down, with numbers nudged", 47, 1_000, turn_lines::nudged),
+        Family::new("loops of 512 and 513 points", 48, 40, turn_lines::many_points),
+        Family::new(
+            "a TURN line, and one register for quotient and remainder",
+            49,
+            500,
+            turn_lines::one_register_twice,
+        ),
+    ]
+}
+
+pub(crate) fn without_turn() -> Vec<Family> {
     vec![
         Family::new("routines that pass, with loops and stripes", 1, 14_000, routines::passing),
         Family::new("routines with one field nudged", 2, 8_000, nudges::nudged),

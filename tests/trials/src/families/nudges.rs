@@ -19,7 +19,8 @@ pub fn dealing_nudged(random: &mut Random) -> Vec<Vec<u8>> {
     (0..CHANGES).map(|_| nudge(random, &text)).collect()
 }
 
-fn nudge(random: &mut Random, text: &[u8]) -> Vec<u8> {
+/// One number in one field changed by a little.
+pub fn nudge(random: &mut Random, text: &[u8]) -> Vec<u8> {
     let mut changed = text.to_vec();
     loop {
         let at = random.below(text.len() / LINE) * LINE;

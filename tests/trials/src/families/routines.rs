@@ -112,14 +112,14 @@ fn unclaimed(random: &mut Random, registers: &[usize]) -> Draft {
 }
 
 /// More claims, of which those are kept that pass.
-fn claimed(random: &mut Random, mut draft: Draft) -> Draft {
+pub(super) fn claimed(random: &mut Random, mut draft: Draft) -> Draft {
     let share = random.pick(&[10, 25, 40]);
     spread_claims(random, &mut draft, share);
     settle(&mut draft);
     draft
 }
 
-fn distinct_registers(random: &mut Random) -> Vec<usize> {
+pub(super) fn distinct_registers(random: &mut Random) -> Vec<usize> {
     let mut registers: Vec<usize> = (0..16).collect();
     for at in 0..6 {
         let other = at + random.below(16 - at);
@@ -129,7 +129,7 @@ fn distinct_registers(random: &mut Random) -> Vec<usize> {
     registers
 }
 
-fn push(draft: &mut Draft, instruction: Instruction, claims: &[Claim]) {
+pub(super) fn push(draft: &mut Draft, instruction: Instruction, claims: &[Claim]) {
     let point = draft.push(instruction);
     claims.iter().for_each(|&claim| point.claim(claim));
 }

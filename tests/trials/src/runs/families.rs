@@ -4,7 +4,7 @@
 use super::call::Call;
 use super::resume::budget;
 use super::starts::{any, bytes, meeting, meeting_at, missing, Start};
-use super::{quotients, remainders};
+use super::{quotients, remainders, turns};
 use crate::draft::{Draft, DraftPoint};
 use crate::families::{damage, dealing, limits, nudges, pieces, probes, routine};
 use crate::random::Random;
@@ -62,6 +62,9 @@ pub fn all_runs() -> Vec<RunFamily> {
         family("remainders of ranges, from states that meet them", 113, 16_000, remainders::of_ranges),
         family("routines that divide with remainder", 114, 2_000, dealing_routines),
         family("one register for quotient and remainder", 115, 3_000, one_register_twice),
+        family("loops that count down, from any point", 116, 2_000, turns::from_any_point),
+        family("loops that count down, with their bound and a round less", 117, 4_000, turns::with_bound),
+        family("listings under a TURN line, turned back", 118, 1_500, turns::turned_back),
     ]
 }
 
@@ -84,7 +87,7 @@ fn dealing_routines(random: &mut Random) -> Vec<Trial> {
     from_several_points(random, &text)
 }
 
-fn from_several_points(random: &mut Random, text: &[u8]) -> Vec<Trial> {
+pub(super) fn from_several_points(random: &mut Random, text: &[u8]) -> Vec<Trial> {
     let points = read(text).expect("a routine passes");
     (0..3).filter_map(|_| from_any_point(random, text, &points, 4)).collect()
 }
@@ -232,7 +235,7 @@ fn one_register_twice(random: &mut Random) -> Vec<Trial> {
     from_any_state(random, make)
 }
 
-fn from_any_state(random: &mut Random, make: fn(&mut Random) -> Vec<Vec<u8>>) -> Vec<Trial> {
+pub(super) fn from_any_state(random: &mut Random, make: fn(&mut Random) -> Vec<Vec<u8>>) -> Vec<Trial> {
     let mut trials = Vec::new();
     for text in make(random) {
         let start = any(random, 8);

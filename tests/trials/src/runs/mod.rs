@@ -10,10 +10,14 @@ mod resume;
 mod shrink;
 mod starts;
 mod tally;
+mod turns;
 mod watch;
 
 pub use call::{After, Call, Runner};
 pub use comparison::{compare_runs, RunDifference};
+pub(crate) use resume::change;
+pub(crate) use starts::{bytes, meeting_at, Start};
+
 pub use families::{all_runs, RunFamily, Trial};
 pub use tally::RunTally;
 pub use watch::watched;

@@ -40,7 +40,7 @@ pub fn resumed(random: &mut Random, call: Call, after: After) -> Call {
 }
 
 /// Some bytes, or all.
-fn change(random: &mut Random, table: &mut Vec<u8>) {
+pub fn change(random: &mut Random, table: &mut Vec<u8>) {
     if table.is_empty() {
         return;
     }

@@ -1,7 +1,7 @@
 //! Calls with one field or a few that are not as the word wants them.
 
 use super::call::{SetCall, BLANK, NEGATIVE, NUMBER};
-use super::models::{numbers, random_number, some_model, MODELS};
+use super::models::{numbers, random_number, some_model, DRAWN, MODELS};
 use crate::random::Random;
 
 const FIELDS: usize = 6;
@@ -17,8 +17,7 @@ pub fn right(random: &mut Random, _batch: u64) -> Vec<SetCall> {
 
 /// One field of one model: every number with and without a minus, one more of each, a blank, and no kind.
 pub fn every_number(random: &mut Random, batch: u64) -> Vec<SetCall> {
-    let model = MODELS[(batch % PLACES) as usize / FIELDS];
-    let field = batch as usize % FIELDS;
+    let (model, field) = (MODELS[row(batch as usize / FIELDS)], batch as usize % FIELDS);
     let mut changes: Vec<(u8, u64)> =
         numbers().into_iter().flat_map(|number| [(NUMBER, number), (NEGATIVE, number)]).collect();
     changes.extend([NUMBER, NEGATIVE, BLANK].map(|kind| (kind, random_number(random))));
@@ -29,6 +28,15 @@ pub fn every_number(random: &mut Random, batch: u64) -> Vec<SetCall> {
         call
     };
     changes.into_iter().map(changed).collect()
+}
+
+/// The models one after the other, twice: those that calls draw from, and then the others.
+fn row(nth: usize) -> usize {
+    if nth < 2 * DRAWN {
+        nth % DRAWN
+    } else {
+        DRAWN + (nth - 2 * DRAWN) % (MODELS.len() - DRAWN)
+    }
 }
 
 /// Two or three fields changed, so that 4 and 5 meet in either order.

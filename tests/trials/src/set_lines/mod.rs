@@ -10,6 +10,7 @@ mod places;
 mod registers;
 mod several;
 mod tally;
+mod turns;
 mod words;
 
 pub use call::{set_by_reference, SetAfter, SetCall, Setter, BLANK, NEGATIVE, NUMBER};

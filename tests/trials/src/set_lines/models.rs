@@ -59,7 +59,7 @@ const fn range_end(word: &'static [u8; 4], variable: &'static [Whole], end: &'st
 }
 
 /// Every word, with each kind of operand, register and size, a z and none.
-pub const MODELS: [Model; 26] = [
+pub const MODELS: [Model; DRAWN + 1] = [
     Model { word: b"STOP", fields: [NONE; 6] },
     range_end(b"SETC", REGISTER, VALUE),
     Model { word: b"COPY", fields: [REGISTER, VARIABLE, NONE, NONE, NONE, NONE] },
@@ -86,7 +86,13 @@ pub const MODELS: [Model; 26] = [
     range_end(b"MOST", SIZE, SIZE_END),
     Model { word: b"STRP", fields: [VARIABLE, SCALE, VARIABLE, NONE, NONE, BOUND] },
     Model { word: b"STRP", fields: [VARIABLE, SCALE, VARIABLE, VARIABLE, NONE, BOUND] },
+    TURN,
 ];
+
+/// The models that calls of any word draw from; TURN has a family of its own.
+pub const DRAWN: usize = 26;
+
+pub const TURN: Model = Model { word: b"TURN", fields: [REGISTER, NONE, NONE, NONE, NONE, NONE] };
 
 impl Model {
     /// A call that is right in all but perhaps its line, in a short listing. The numbers of its blanks are any.
@@ -108,7 +114,7 @@ impl Model {
 }
 
 pub fn some_model(random: &mut Random) -> Model {
-    random.pick(&MODELS)
+    random.pick(&MODELS[..DRAWN])
 }
 
 const DIGITS: u32 = 20;

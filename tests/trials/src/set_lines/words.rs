@@ -1,4 +1,4 @@
-//! Calls whose word is none of the sixteen, most of them nearly one.
+//! Calls whose word is none of the seventeen, most of them nearly one.
 
 use super::call::SetCall;
 use super::models::{some_model, MODELS};
