@@ -38,7 +38,8 @@ pub extern "C" fn rithwellu_print(listing: &[u8], line: &mut [u8; 40])
 pub extern "C" fn rithwellu_step_bound(listing: &[u8], answer: &mut [u64; 4])
     ensures { λ _. ⌜ now (answer .exit) ≡ boundAnswer (stepBound (now (listing .entry))) ⌝ }
 {
-    *answer = bound_numbers(step_bound::step_bound(listing));
+    let b = step_bound::step_bound(listing);
+    *answer = bound_numbers(b);
 }
 
 // The claim lines of a point as a part of the listing: number and place of the refusal, or 0; offset and length of the part.

@@ -3,14 +3,14 @@
 -- The rows after C10 go beyond them: each number that C1 to C10 do not show, 2 to 11, 15 and 16, and 12 once more, most with a second fault
 -- that is tested later; three rows of the printer and the runner; the call for claim lines; the slips that document 01 names, each beside a
 -- like listing that passes; and document 02's requests, T-01 to T-05, with a row or more for each clause. C9 is the slip of the address. A third variable in a link and a
--- fourth link stand with the slips: no run goes wrong by them, so that soundness does not refuse them. 8 is shown on points that are read: 513 lines are too many to read by computation.
+-- fourth link stand with the slips: no run goes wrong by them, so that soundness does not refuse them. 8 is shown on points that are read: 513 lines are too many to read by computation; so are the near misses of a covered edge, which takes less time.
 -- A listing is written a row a line: the word and the six fields, each as the text that stands at the right of its columns.
 use Prim.Native.Nat.{ℕ, zero, suc, _+_, _-_}
 use Prim.Native.String.{String}
 use mathlib.Core.Path.{_≡_, refl}
 use mathlib.Core.List.{List, [], _∷_, _++_, map}
 use lib.ListN.{length, replicate}
-use Rattle.model.specs.Types.{Field, Blank, Number, Negative, Copy, State, Refusal, Judgement, Accepted, refused, StepBound, Bounded, refusedBound, Verdict, Passed, refusedVerdict, Report, Stopped, Paused, refusedRun}
+use Rattle.model.specs.Types.{Field, Blank, Number, Negative, variable, number, Instruction, Stop, Copy, Subw, Jump, Bltu, Bequ, Divm, Claim, Leas, Most, Turn, State, Refusal, Judgement, Accepted, refused, StepBound, Bounded, refusedBound, Verdict, Passed, refusedVerdict, Report, Stopped, Paused, refusedRun}
 use Rattle.model.specs.Text.{space}
 use Rattle.model.specs.Words.{bytes}
 use Rattle.model.specs.Answers.{numberOf, placeOf, secondPlaceOf}
@@ -20,7 +20,7 @@ use Rattle.model.specs.Machine.{lent}
 use Rattle.model.specs.Check.{check}
 use Rattle.model.specs.Run.{Ran, run}
 use Rattle.model.specs.Output.{printed}
-use Rattle.model.specs.Bound.{stepBound}
+use Rattle.model.specs.Bound.{edgesCovered, boundFrom, stepBound}
 
 -- a text at the right of n columns
 abbrev right : ℕ → String → List ℕ
@@ -489,29 +489,38 @@ counted h =
     ∷ row "STOP" "" "" "" "" "" ""
     ∷ [])
 
--- register 1 lowered by these rows and then tested again, until it is 0 and point t follows; other rows may stand behind
-abbrev lowered : String → List (List ℕ) → List (List ℕ) → List ℕ
-lowered t body behind =
+-- register 1 counted down, with a point between the SUBW and the JUMP
+abbrev countedLate : List ℕ
+countedLate =
     rows
     (row "TURN" "1" "" "" "" "" ""
-    ∷ row "BEQU" "" "1" "" t "1" "0"
+    ∷ row "BEQU" "" "1" "" "4" "1" "0"
     ∷ row "LEAS" "1" "" "" "" "" "1"
-    ∷ (body ++ (row "JUMP" "" "" "" "0" "" "" ∷ row "STOP" "" "" "" "" "" "" ∷ behind)))
-
--- a number taken from register 1
-abbrev less : String → List ℕ
-less c = row "SUBW" "1" "1" "" "" "1" c
-
--- 1 is taken from register 1, which is at least 1, and this row follows
-abbrev lessThen : List ℕ → List ℕ
-lessThen l =
-    rows
-    (row "TURN" "1" "" "" "" "" ""
-    ∷ row "LEAS" "1" "" "" "" "" "1"
-    ∷ less "1"
-    ∷ l
+    ∷ row "SUBW" "1" "1" "" "" "1" "1"
+    ∷ row "SETC" "2" "" "" "" "" "0"
+    ∷ row "JUMP" "" "" "" "0" "" ""
     ∷ row "STOP" "" "" "" "" "" ""
     ∷ [])
+
+-- a point on a line, with its claims
+abbrev on : ℕ → List Claim → Instruction → Point
+on l cs i = record { line = l; claims = cs; instruction = i }
+
+-- 1 at least in register 1
+abbrev some : List Claim
+some = Leas 1 1 ∷ []
+
+-- a number taken from register 1, where it holds 1 at least
+abbrev less : ℕ → Point
+less c = on 4 some (Subw 1 1 (number c))
+
+-- a loop with register 1 for its TURN register: point 0 goes to point t where it is 0, these points follow, then a JUMP back on line 8, and STOP
+abbrev loop : ℕ → List Point → List Point
+loop t body = on 2 (Turn 1 ∷ []) (Bequ 1 t (number 0)) ∷ (body ++ (on 8 [] (Jump 0) ∷ on 9 [] Stop ∷ []))
+
+-- 1 taken from register 1, and this instruction on line 4
+abbrev lessThen : Instruction → List Point
+lessThen i = on 3 (Turn 1 ∷ some) (Subw 1 1 (number 1)) ∷ on 4 [] i ∷ on 5 [] Stop ∷ []
 
 -- a TURN with these registers in F1 and F2
 abbrev turn : String → String → List ℕ
@@ -582,6 +591,10 @@ checked l a = record { given = answer (ofVerdict (check l)); stated = answer a }
 -- the answer of the call for a bound
 abbrev needs : List ℕ → Answer → Case
 needs l a = record { given = answer (ofBound (stepBound l)); stated = answer a }
+
+-- 20 and the bound of points that are read
+abbrev pointsNeed : List Point → Answer → Case
+pointsNeed ps a = record { given = answer (ofBound (boundFrom ps (edgesCovered ps (length ps)))); stated = answer a }
 
 -- the tests 7 to 11 over so many lines that were read as these points
 abbrev wholeTested : ℕ → List Point → Answer → Case
@@ -818,46 +831,39 @@ table =
     -- T-05, bounds: the points where nothing goes back, points × (hi + 1) for a register that counts down, and more than MAX
     ∷ needs c5 (bounds 4)
     ∷ needs (counted "5") (bounds 24)
-    ∷ needs (counted "0") (bounds 4)
-    ∷ needs (lowered "3" (less "1" ∷ []) []) (bounds 17179869184)
-    -- a run with the bound for its budget stops, and so does one that is halted and taken up again
-    ∷ runs (counted "5") (standing 0 0 5 0) [] [] 24 (afterRun stops 16 (standing 3 0 0 0) [] [])
-    ∷ runs (counted "5") (standing 0 0 2 0) [] [] 5 (afterRun pauses 5 (standing 2 0 0 0) [] [])
-    ∷ runs (counted "5") (standing 2 0 0 0) [] [] 19 (afterRun stops 2 (standing 3 0 0 0) [] [])
-    -- 20: the SUBW two points before the JUMP; a second write, also of the register's own value, by the second result of DIVM, or where nothing reaches it
-    ∷ needs (lowered "4" (less "1" ∷ row "SETC" "2" "" "" "" "" "0" ∷ []) []) (refusedBy 20 6 0)
-    ∷ needs (lowered "4" (row "COPY" "1" "1" "" "" "" "" ∷ row "LEAS" "1" "" "" "" "" "1" ∷ less "1" ∷ []) []) (refusedBy 20 7 0)
-    ∷ needs (lowered "3" (less "1" ∷ []) (row "DIVM" "2" "0" "1" "" "1" "7" ∷ row "STOP" "" "" "" "" "" "" ∷ [])) (refusedBy 20 5 0)
-    ∷ needs (lowered "3" (less "1" ∷ []) (row "DIVM" "2" "0" "3" "" "1" "7" ∷ row "STOP" "" "" "" "" "" "" ∷ [])) (bounds 25769803776)
-    -- lo below c, a c of 0, a variable for c, and another register taken from
-    ∷ needs (lowered "3" (less "2" ∷ []) []) (refusedBy 20 5 0)
-    ∷ needs (lowered "3" (less "0" ∷ []) []) (refusedBy 20 5 0)
-    ∷ needs (lowered "3" (row "SUBW" "1" "1" "" "" "0" "1" ∷ []) []) (refusedBy 20 5 0)
-    ∷ needs (lowered "3" (row "SUBW" "1" "2" "" "" "1" "1" ∷ []) []) (refusedBy 20 5 0)
-    ∷ needs (lowered "3" (row "SUBW" "2" "1" "" "" "1" "1" ∷ []) []) (refusedBy 20 5 0)
-    -- the JUMP is a target, of a branch or its own; a branch goes back; no point before the JUMP; no TURN; of two edges the first
-    ∷ needs (lowered "2" (less "1" ∷ []) []) (refusedBy 20 5 0)
-    ∷ needs (lessThen (row "JUMP" "" "" "" "1" "" "")) (refusedBy 20 4 0)
-    ∷ needs (lessThen (row "BLTU" "" "0" "" "0" "0" "1")) (refusedBy 20 4 0)
-    ∷ needs (lessThen (row "BLTU" "" "0" "" "2" "0" "1")) (bounds 3)
-    ∷ needs (rows (turn "1" "" ∷ row "JUMP" "" "" "" "0" "" "" ∷ [])) (refusedBy 20 2 0)
-    ∷ needs (c6 "4") (refusedBy 20 12 0)
-    ∷ needs (rows (row "JUMP" "" "" "" "0" "" "" ∷ row "JUMP" "" "" "" "0" "" "" ∷ [])) (refusedBy 20 1 0)
+    ∷ needs countedLate (refusedBy 20 6 0)
+    ∷ pointsNeed (loop 3 (less 1 ∷ [])) (bounds 17179869184)
+    ∷ pointsNeed (on 3 (Turn 1 ∷ Most 1 0 ∷ []) (Bequ 1 3 (number 0)) ∷ less 1 ∷ on 5 [] (Jump 0) ∷ on 6 [] Stop ∷ []) (bounds 4)
+    -- a run with the bound for its budget stops
+    ∷ runs (counted "5") (standing 0 0 1 0) [] [] 24 (afterRun stops 4 (standing 3 0 0 0) [] [])
+    -- 20: a second write, also of the register's own value, or by the second result of DIVM; one of other registers is none
+    ∷ pointsNeed (loop 4 (on 3 some (Copy 1 1) ∷ less 1 ∷ [])) (refusedBy 20 8 0)
+    ∷ pointsNeed (loop 4 (on 3 [] (Divm 2 0 1 (number 7)) ∷ less 1 ∷ [])) (refusedBy 20 8 0)
+    ∷ pointsNeed (loop 4 (on 3 [] (Divm 2 0 3 (number 7)) ∷ less 1 ∷ [])) (bounds 21474836480)
+    -- lo below c, a c of 0, a variable for c, another register read, and another written
+    ∷ pointsNeed (loop 3 (less 2 ∷ [])) (refusedBy 20 8 0)
+    ∷ pointsNeed (loop 3 (less 0 ∷ [])) (refusedBy 20 8 0)
+    ∷ pointsNeed (loop 3 (on 4 some (Subw 1 1 (variable 1)) ∷ [])) (refusedBy 20 8 0)
+    ∷ pointsNeed (loop 3 (on 4 some (Subw 1 2 (number 1)) ∷ [])) (refusedBy 20 8 0)
+    ∷ pointsNeed (loop 3 (on 4 some (Subw 2 1 (number 1)) ∷ [])) (refusedBy 20 8 0)
+    -- the JUMP is a target, of a branch or its own; a branch goes back, and one does not; no point before the JUMP; no TURN; of two edges the first
+    ∷ pointsNeed (loop 2 (less 1 ∷ [])) (refusedBy 20 8 0)
+    ∷ pointsNeed (lessThen (Jump 1)) (refusedBy 20 4 0)
+    ∷ pointsNeed (lessThen (Bltu 0 0 (variable 1))) (refusedBy 20 4 0)
+    ∷ pointsNeed (lessThen (Bltu 0 2 (variable 1))) (bounds 3)
+    ∷ pointsNeed (on 2 (Turn 1 ∷ []) (Jump 0) ∷ []) (refusedBy 20 2 0)
+    ∷ needs c3 (refusedBy 20 1 0)
+    ∷ pointsNeed (on 1 [] (Jump 0) ∷ on 2 [] (Jump 0) ∷ []) (refusedBy 20 1 0)
     -- 20 after the checker's refusals
-    ∷ needs (c6 "5") (refusedBy 14 4 7)
-    ∷ needs c1 (refusedBy 1 0 0)
+    ∷ needs (rows (row "JUMP" "" "" "" "1" "" "" ∷ row "LEAS" "0" "" "" "" "" "1" ∷ row "JUMP" "" "" "" "0" "" "" ∷ [])) (refusedBy 14 1 2)
     -- TURN is a claim line of point 0 that claims nothing: alone it is 7; after the first line it is 6, and 4 and 5 before that
-    ∷ checked (counted "5") (passes 4)
-    ∷ claimsAt (counted "5") 0 accepts (turn "1" "" ++ row "MOST" "1" "" "" "" "" "5")
+    ∷ claimsAt (rows (turn "1" "" ∷ inPlace ∷ row "STOP" "" "" "" "" "" "" ∷ [])) 0 accepts (turn "1" "" ++ inPlace)
     ∷ checked (turn "15" "") (refusedBy 7 1 0)
-    ∷ checked (turn "16" "") (refusedBy 5 1 0)
     ∷ checked (turn "1" "2") (refusedBy 4 1 0)
+    ∷ checked (rows (row "STOP" "" "" "" "" "" "" ∷ turn "16" "" ∷ [])) (refusedBy 5 2 0)
+    ∷ checked (rows (row "STOP" "" "" "" "" "" "" ∷ turn "15" "" ∷ [])) (refusedBy 6 2 0)
     ∷ checked (rows (turn "1" "" ∷ turn "1" "" ∷ [])) (refusedBy 6 2 0)
-    ∷ checked (rows (row "STOP" "" "" "" "" "" "" ∷ turn "1" "" ∷ [])) (refusedBy 6 2 0)
-    ∷ checked (rows (inPlace ∷ turn "16" "" ∷ [])) (refusedBy 5 2 0)
-    ∷ checked (rows (inPlace ∷ turn "15" "" ∷ [])) (refusedBy 6 2 0)
-    ∷ sets "TURN" (six (Number 15) Blank Blank Blank Blank Blank) 2 (replicate 80 0) accepts (replicate 40 0 ++ turn "15" "")
-    ∷ setsNothing "TURN" (six (Number 16) Blank Blank Blank Blank Blank) 2 40 (refusedBy 5 2 0)
+    ∷ sets "TURN" (six (Number 15) Blank Blank Blank Blank Blank) 1 (replicate 40 0) accepts (turn "15" "")
     ∷ []
 
 -- what the definitions give in a case
