@@ -1,4 +1,4 @@
-/* The checker, the claim lines and the runner for C: link with target/staticlib/libexports.a (rt staticlib exports).
+/* The checker, the bound on steps, the claim lines and the runner for C: link with target/staticlib/libexports.a (rt staticlib exports).
    The setting of lines: link with target/staticlib/libwriter_exports.a (rt staticlib writer_exports).
    Every pointer is valid for its length, and none may be null, also where its length is 0. */
 #ifndef RITHWELLU_H
@@ -20,6 +20,14 @@ void rithwellu_check(const uint8_t *listing, size_t len, uint64_t answer[4]);
 
 /* The line of 40 bytes that the program prints for the listing. */
 void rithwellu_print(const uint8_t *listing, size_t len, uint8_t line[40]);
+
+/* How many steps a run needs at most from point 0, from a state that meets the claims there:
+   answer[0] the number of the refusal, 1 to 14, 19 or 20, or 0;
+   answer[1] its place, a line counted from 1, or 0;
+   answer[2] its second place, for 14 the line of the claim, else 0;
+   answer[3] the bound, up to 2,199,023,255,552, else 0.
+   A run with the bound or more for its budget ends stopped, and so do runs that are taken up again whose budgets add up to it. */
+void rithwellu_step_bound(const uint8_t *listing, size_t len, uint64_t answer[4]);
 
 /* The claim lines of a point, as the part of the listing that holds them:
    answer[0] the number of the refusal, 1 to 11, 16 or 19, or 0;

@@ -84,6 +84,8 @@ fn of_several() -> Result<(), String> {
 fn cannot_be_read() -> Result<(), String> {
     let folder = with_listings("statuses_unread");
     is_error(&said(&mut check_listing()), "usage")?;
+    is_error(&said(check_listing().arg("--steps")), "usage")?;
+    is_error(&said(check_listing().arg("--steps").arg(folder.path("missing"))), "missing")?;
     is_error(&checked(&folder, &["missing"]), "missing")?;
     is_error(&checked(&folder, &["."]), &folder.path("."))?;
     is_error(&said(check_listing().arg("")), "")

@@ -5,7 +5,7 @@ use crate::folder::{check_listing, root, run_listing, Folder};
 use crate::process::{said, Said};
 use crate::routines::{counting, viability};
 use lines::listing;
-use reference::{check, printed, Outcome, Refusal};
+use reference::{check, printed, step_bound, Outcome, Refusal};
 use std::fs;
 use trials::runs::Call;
 
@@ -17,6 +17,7 @@ pub fn tests() -> Vec<Test> {
     vec![
         ("README has a row for each refusal", table_is_whole),
         ("refusals of the checker in words", checked),
+        ("steps, and refusals of the steps in words", steps),
         ("refusals of a listing that is run in words", run),
         ("refusals of tables and states in words", tables_and_states),
         ("bytes that cannot be shown", unprintable),
@@ -64,7 +65,7 @@ fn listings() -> impl Iterator<Item = (u64, Vec<u8>)> {
 fn table_is_whole() -> Result<(), String> {
     let path = root().join("crates/explained/specs/Explanation.antt");
     let words = fs::read_to_string(path).expect("the words of the refusals are there");
-    (1..=19).try_for_each(|number| {
+    (1..=20).try_for_each(|number| {
         let (meaning, advice) = row(number).ok_or_else(|| format!("no row for {number}"))?;
         [meaning, advice].iter().try_for_each(|text| {
             ensure(words.contains(&format!("= bytes \"{text}\"\n")), || format!("not the words of {number}: {text}"))
@@ -120,6 +121,45 @@ fn checked() -> Result<(), String> {
         is_checked(&folder, "listing", 1)?;
     }
     Ok(())
+}
+
+/// The line for the steps of a listing, and the words of what turns it back.
+fn is_bounded(folder: &Folder, name: &str, number: u64) -> Result<(), String> {
+    let bytes = folder.get(name);
+    let said = said(check_listing().arg("--steps").arg(folder.at(name)));
+    match step_bound(&bytes) {
+        Ok(bound) => {
+            let line = format!("STEP{bound:>35}\n");
+            ensure(number == 0 && said.status == 0 && said.output == line && said.error.is_empty(), || {
+                format!("{said:?} where {line:?} is due")
+            })
+        }
+        Err(refusal) => {
+            ensure(refusal.number == number, || format!("the reference answers {refusal:?} in place of {number}"))?;
+            let line = match refusal.second {
+                0 => format!("FAIL{number:>4}{:>31}\n", refusal.place),
+                second => format!("FAIL{number:>4}{second:>16}{:>15}\n", refusal.place),
+            };
+            is_said(&said, &line, &in_words(&folder.path(name), &bytes, &refusal))
+        }
+    }
+}
+
+fn steps() -> Result<(), String> {
+    let folder = Folder::new("words_steps");
+    let example = |name: &str| fs::read(root().join("examples").join(name)).expect("the example is there");
+    let bounded = [
+        (0, example("c05.lst")),
+        (0, example("halves.lst")),
+        (0, listing("TURN 1; BEQU _ 1 _ 3 1 0; LEAS 1 _ _ _ _ 1; SUBW 1 1 _ _ 1 1; JUMP _ _ _ 0; STOP")),
+        (20, example("halves_late.lst")),
+        (20, example("c03.lst")),
+        (20, example("viability.lst")),
+    ];
+    bounded.into_iter().chain(listings()).try_for_each(|(number, bytes)| {
+        folder.put("listing", &bytes);
+        is_bounded(&folder, "listing", number)
+    })
 }
 
 /// Runs the call, whose refusal is about this file.

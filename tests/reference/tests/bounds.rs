@@ -90,7 +90,7 @@ fn the_point_just_before_is_a_subw_of_the_register() {
 }
 
 #[test]
-fn a_jump_at_point_0_has_no_point_before_it() {
+fn nothing_stands_before_a_jump_at_point_0() {
     unbounded("TURN 3; JUMP _ _ _ 0", 1, 2);
     unbounded("TURN 3; JUMP _ _ _ 0; STOP", 2, 2);
     unbounded("TURN 3; JUMP _ _ _ 0; LEAS 3 _ _ _ _ 1; SUBW 3 3 _ _ 1 1; STOP", 3, 2);
@@ -186,7 +186,7 @@ fn the_number_is_at_least_1() {
 }
 
 #[test]
-fn a_branch_that_goes_back_is_never_covered() {
+fn no_branch_back_is_covered() {
     unbounded(&with("JUMP _ _ _ 1", "BEQU _ 1 _ 1 1 7"), 5, 7);
     unbounded(&with("JUMP _ _ _ 1", "BLTU _ 3 _ 0 1 0").replace("MOST 3 _ _ _ _ 9;", ""), 5, 6);
     // to its own point
