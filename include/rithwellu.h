@@ -29,6 +29,9 @@ void rithwellu_print(const uint8_t *listing, size_t len, uint8_t line[40]);
    A run with the bound or more for its budget ends stopped, and so do runs that are taken up again whose budgets add up to it. */
 void rithwellu_step_bound(const uint8_t *listing, size_t len, uint64_t answer[4]);
 
+/* The line of 40 bytes that the program prints for the steps of the listing: STEP with the bound at its end, or FAIL. */
+void rithwellu_print_bound(const uint8_t *listing, size_t len, uint8_t line[40]);
+
 /* The claim lines of a point, as the part of the listing that holds them:
    answer[0] the number of the refusal, 1 to 11, 16 or 19, or 0;
    answer[1] its place, a line counted from 1, or 0; none of them has a second place;

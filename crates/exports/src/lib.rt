@@ -14,6 +14,7 @@ ghost use Rattle.model.specs.Bound.{stepBound};
 ghost use Rattle.model.specs.Machine.{lent};
 ghost use Rattle.model.specs.Run as Run;
 ghost use Rattle.output.specs.Arrays.{answerOf, boundAnswer, partAnswer, runAnswer};
+ghost use Rattle.output.specs.BoundLine.{boundLine};
 ghost use Rattle.state_tests.specs.States.{state};
 ghost use Rattle.exports.specs.Answer.{RunAnswered, RunAnsweredInPlace};
 
@@ -40,6 +41,14 @@ pub extern "C" fn rithwellu_step_bound(listing: &[u8], answer: &mut [u64; 4])
 {
     let b = step_bound::step_bound(listing);
     *answer = bound_numbers(b);
+}
+
+// The line that the program prints for the steps of a listing.
+#[no_mangle]
+pub extern "C" fn rithwellu_print_bound(listing: &[u8], line: &mut [u8; 40])
+    ensures { λ _. ⌜ now (line .exit) ≡ boundLine (stepBound (now (listing .entry))) ⌝ }
+{
+    *line = step_bound::report(listing);
 }
 
 // The claim lines of a point as a part of the listing: number and place of the refusal, or 0; offset and length of the part.

@@ -51,7 +51,7 @@ unfolding factsOf
 facts-long cs = claims-long unclaimed cs
 
 -- the unclaimed ends of every variable, by computation
-unclaimed-ends : (v : ℕ) → v < variables → (lo (unclaimed .ranges) v ≡ 0) × (hi (unclaimed .ranges) v ≡ unclaimedRange v .hi)
+pub unclaimed-ends : (v : ℕ) → v < variables → (lo (unclaimed .ranges) v ≡ 0) × (hi (unclaimed .ranges) v ≡ unclaimedRange v .hi)
 unfolding everyBelow
 unclaimed-ends v h = (eqb-true _ _ (and-left (eqb (lo (unclaimed .ranges) v) 0) _ t), eqb-true _ _ (and-right (eqb (lo (unclaimed .ranges) v) 0) _ t))
   where

@@ -1,5 +1,5 @@
 -- Document 02, T-05: how many steps a passed listing needs at most from point 0, refusal 20, and the promise of the bound.
--- Edges go by the text: also where an edge is impossible, or where nothing reaches its point.
+-- Which edges go back is told by the text alone: impossible ones count too, and those of points that nothing reaches.
 use Prim.Native.Nat.{ℕ, zero, suc, _+_, _*_, _≤_}
 use mathlib.Core.Path.{_≡_}
 use mathlib.Core.Bool.{Bool, true, false, not, _&&_, _||_, cond}
@@ -94,7 +94,7 @@ unfolding some
 anyGoesBack ps zero = false
 anyGoesBack ps (suc n) = anyGoesBack ps n || goesBack n (pointAt ps n .instruction)
 
--- hi of the TURN register at point 0, plus 1; without a TURN no backward edge is covered, and 1 stands for it
+-- one more than the high end that the TURN register has at point 0; without a TURN no backward edge is covered, and 1 stands for it
 abbrev pub roundsOf : List Point → Turning → ℕ
 roundsOf ps noTurn = 1
 roundsOf ps (turning r) = hi (factsOf (pointAt ps 0 .claims) .ranges) r + 1

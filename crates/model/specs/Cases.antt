@@ -856,7 +856,7 @@ table =
     ∷ pointsNeed (on 1 [] (Jump 0) ∷ on 2 [] (Jump 0) ∷ []) (refusedBy 20 1 0)
     -- 20 after the checker's refusals
     ∷ needs (rows (row "JUMP" "" "" "" "1" "" "" ∷ row "LEAS" "0" "" "" "" "" "1" ∷ row "JUMP" "" "" "" "0" "" "" ∷ [])) (refusedBy 14 1 2)
-    -- TURN is a claim line of point 0 that claims nothing: alone it is 7; after the first line it is 6, and 4 and 5 before that
+    -- TURN stands with the claims of point 0: alone it is 7; after the first line it is 6, and 4 and 5 before that
     ∷ claimsAt (rows (turn "1" "" ∷ inPlace ∷ row "STOP" "" "" "" "" "" "" ∷ [])) 0 accepts (turn "1" "" ++ inPlace)
     ∷ checked (turn "15" "") (refusedBy 7 1 0)
     ∷ checked (turn "1" "2") (refusedBy 4 1 0)

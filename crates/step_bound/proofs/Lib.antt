@@ -1,3 +1,4 @@
+pub mod ClaimedRange
 pub mod FirstClaim
 pub mod RowEdges
 pub mod TargetMarks

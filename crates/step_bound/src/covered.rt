@@ -1,6 +1,6 @@
 // Refusal 20: a backward edge that is not covered.
 use crate::back::goes_back;
-use crate::writers::writes_to;
+use crate::writers::point_writes;
 use decoded::decode::has_target;
 use decoded::decode::instruction_from;
 use decoded::rows::Row;
@@ -37,7 +37,7 @@ fn written_before<'a>(rows: &'a [u64], at: &'a [u16], n: usize, p: usize, regist
     if p == 0 {
         return false;
     }
-    writes_to(register, instruction_from(instruction_row(rows, at, p - 1)))
+    point_writes(rows, at, p - 1, register)
 }
 
 // Whether a backward edge of point p, of n, is covered: taken says whether the register is only taken from, the marks which points are targets.

@@ -1,6 +1,7 @@
 // How many steps a passed listing needs at most from point 0: refusal 20, and the bound.
 mod back;
 mod covered;
+mod ends;
 pub mod points;
 mod turn;
 mod writers;
@@ -9,6 +10,7 @@ use crate::points::points_bound;
 use checker::judged_listing;
 use model::answers::Judgement;
 use model::answers::StepBound;
+use output::bound_line::bound_line;
 use reader::sizes::ALL_ROWS;
 use reader::sizes::FEW_LISTING;
 use reader::sizes::FEW_ROWS;
@@ -22,6 +24,7 @@ ghost use Prim.Native.Nat.{_*_, _/_, _≤_};
 ghost use lib.ListN.{length};
 ghost use Rattle.model.specs.Limits.{lineBytes, greatestListing};
 ghost use Rattle.model.specs.Bound.{stepBound};
+ghost use Rattle.output.specs.BoundLine.{boundLine};
 
 // The bound, with rows that are lent for the lines.
 fn bound_in(listing: &[u8], rows: &mut [u64]) -> StepBound
@@ -34,6 +37,21 @@ fn bound_in(listing: &[u8], rows: &mut [u64]) -> StepBound
     match j {
         Judgement::Refused(r) => StepBound::Refused(r),
         Judgement::Accepted => points_bound(rows, &at, l.count),
+    }
+}
+
+// The bound of few lines. It has a body of its own beside `bound_in`, so that the bound of the points has two callers and stays a function of its own; else `bound_many` would be compiled into its callers, and every short call would touch its rows.
+fn bound_few(listing: &[u8]) -> StepBound
+    requires { ⌜ (length (now listing) ≤ 640) ⌝ }
+    ensures { λ r. ⌜ r ≡ stepBound (now (listing .entry)) ⌝ }
+{
+    let mut rows = [0u64; FEW_ROWS];
+    let mut at = [0u16; PLACE_NUMBERS];
+    let l = judged_listing(listing, &mut rows, &mut at);
+    let j = l.judgement;
+    match j {
+        Judgement::Refused(r) => StepBound::Refused(r),
+        Judgement::Accepted => points_bound(&rows, &at, l.count),
     }
 }
 
@@ -58,8 +76,17 @@ pub fn step_bound(listing: &[u8]) -> StepBound
     ensures { λ r. ⌜ r ≡ stepBound (now (listing .entry)) ⌝ }
 {
     if listing.len() <= FEW_LISTING {
-        let mut rows = [0u64; FEW_ROWS];
-        return bound_in(listing, &mut rows);
+        return bound_few(listing);
     }
     bound_many(listing)
+}
+
+// The line of 40 bytes that the program prints for the steps of a listing.
+pub fn report(listing: &[u8]) -> [u8; 40]
+    ensures { λ r. ⌜ r ≡ boundLine (stepBound (now (listing .entry))) ⌝ }
+{
+    if listing.len() <= FEW_LISTING {
+        return bound_line(bound_few(listing));
+    }
+    bound_line(bound_many(listing))
 }

@@ -1,12 +1,10 @@
 // The TURN register of a listing, and the rounds that its high end at point 0 allows.
+use crate::ends::range_at;
 use decoded::decode::claim_at;
-use facts::sizes::STRIPE_NUMBERS;
 use model::claims::Claim;
 use model::claims::Turning;
-use model::limits::VARIABLES;
 use reader::places::claims_of;
 use reader::places::first_of;
-use reader::point_facts::facts_at;
 ghost use mathlib.Core.Path.{_≡_};
 ghost use mathlib.Core.List.{[], _∷_};
 ghost use Prim.Native.Nat.{_+_, _≤_, _<_};
@@ -55,11 +53,8 @@ fn rounds_at<'a>(rows: &'a [u64], at: &'a [u16], r: usize) -> u64
     requires { ⌜ Placed (now rows) (now at) 0 × (r < registers) ⌝ }
     ensures { λ x. ⌜ (x ≡ hi (factsOf (pointIn (now (rows .entry)) (now (at .entry)) 0 .claims) .ranges) r + 1) × (x ≤ MAX + 1) ⌝ }
 {
-    let mut low = [0u64; VARIABLES];
-    let mut high = [0u64; VARIABLES];
-    let mut stripes = [0u64; STRIPE_NUMBERS];
-    facts_at(rows, at, 0, &mut low, &mut high, &mut stripes);
-    high[r] + 1
+    let range = range_at(rows, at, 0, r);
+    range.hi + 1
 }
 
 // The rounds that the TURN register allows; 1 where there is none.

@@ -1,25 +1,22 @@
 // What writes the TURN register: every instruction that does takes a number from it, and no more than it holds.
+use crate::ends::range_at;
 use decoded::decode::instruction_from;
-use facts::sizes::STRIPE_NUMBERS;
 use model::claims::Turning;
-use model::limits::VARIABLES;
 use model::machine::Instruction;
 use model::machine::Operand;
 use reader::places::instruction_row;
-use reader::point_facts::facts_at;
 ghost use mathlib.Core.Path.{_≡_};
 ghost use Prim.Native.Nat.{_<_};
 ghost use Rattle.model.specs.Limits.{registers};
 ghost use Rattle.model.specs.Lists.{every, among};
 ghost use Rattle.model.specs.Instructions.{writes};
 ghost use Rattle.model.specs.Facts.{Facts, lo};
-ghost use Rattle.model.specs.Bound.{takesAtMost, takesFrom, onlyTakes};
-ghost use Rattle.facts.specs.Known.{Standing};
+ghost use Rattle.model.specs.Bound.{takesAtMost, takesFrom, writesTo, onlyTakes};
 ghost use Rattle.reader.specs.Points.{pointIn, pointsIn, Placed, AllPlaced};
 ghost use Rattle.step_bound.specs.Covering.{registerIn, onlyTaken};
 
 // Whether an instruction writes the register r.
-pub(crate) fn writes_to(r: usize, i: Instruction) -> bool
+fn writes_to(r: usize, i: Instruction) -> bool
     ensures { λ b. ⌜ b ≡ among r (writes i) ⌝ }
 {
     match i {
@@ -109,25 +106,31 @@ fn takes_from(r: usize, low: u64, i: Instruction) -> bool
     }
 }
 
-// Whether point p, if it writes the register r, only takes from it. The arrays are lent to be written in.
-fn only_takes<'a>(
-    rows: &'a [u64],
-    at: &'a [u16],
-    p: usize,
-    r: usize,
-    low: &'a mut [u64; VARIABLES],
-    high: &'a mut [u64; VARIABLES],
-    stripes: &'a mut [u64; STRIPE_NUMBERS],
-) -> bool
-    requires { ⌜ Placed (now rows) (now at) p × (r < registers) ⌝ }
-    requires { ⌜ Standing (now stripes) 0 ⌝ }
-    ensures { λ b. ⌜ b ≡ onlyTakes r (pointIn (now (rows .entry)) (now (at .entry)) p) ⌝ }
-    ensures { λ b. ⌜ Standing (now (stripes .exit)) 0 ⌝ }
+// Whether point p writes the register r. Where neither F1 nor F3 of its row is r, no instruction that it may hold does.
+pub(crate) fn point_writes<'a>(rows: &'a [u64], at: &'a [u16], p: usize, r: usize) -> bool
+    requires { ⌜ Placed (now rows) (now at) p ⌝ }
+    ensures { λ b. ⌜ b ≡ writesTo r (pointIn (now (rows .entry)) (now (at .entry)) p) ⌝ }
 {
-    let i = instruction_from(instruction_row(rows, at, p));
-    if writes_to(r, i) {
-        facts_at(rows, at, p, low, high, stripes);
-        return takes_from(r, low[r], i);
+    let row = instruction_row(rows, at, p);
+    let n = r as u64;
+    if row.first == n {
+        return writes_to(r, instruction_from(row));
+    }
+    if row.third == n {
+        return writes_to(r, instruction_from(row));
+    }
+    false
+}
+
+// Whether point p, if it writes the register r, only takes from it.
+fn only_takes<'a>(rows: &'a [u64], at: &'a [u16], p: usize, r: usize) -> bool
+    requires { ⌜ Placed (now rows) (now at) p × (r < registers) ⌝ }
+    ensures { λ b. ⌜ b ≡ onlyTakes r (pointIn (now (rows .entry)) (now (at .entry)) p) ⌝ }
+{
+    if point_writes(rows, at, p, r) {
+        let range = range_at(rows, at, p, r);
+        let i = instruction_from(instruction_row(rows, at, p));
+        return takes_from(r, range.lo, i);
     }
     true
 }
@@ -137,14 +140,10 @@ fn all_take<'a>(rows: &'a [u64], at: &'a [u16], n: usize, r: usize) -> bool
     requires { ⌜ AllPlaced (now rows) (now at) n × (r < registers) ⌝ }
     ensures { λ b. ⌜ b ≡ every (onlyTakes r) (pointsIn (now (rows .entry)) (now (at .entry)) n) ⌝ }
 {
-    let mut low = [0u64; VARIABLES];
-    let mut high = [0u64; VARIABLES];
-    let mut stripes = [0u64; STRIPE_NUMBERS];
     let mut all = true;
     let mut p = 0;
     while p < n {
-        let one = only_takes(rows, at, p, r, &mut low, &mut high, &mut stripes);
-        all = all & one;
+        all = all & only_takes(rows, at, p, r);
         p += 1;
     }
     all

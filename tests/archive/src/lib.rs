@@ -71,6 +71,7 @@ extern "C" {
     fn rithwellu_check(listing: *const u8, len: usize, answer: *mut u64);
     fn rithwellu_step_bound(listing: *const u8, len: usize, answer: *mut u64);
     fn rithwellu_print(listing: *const u8, len: usize, line: *mut u8);
+    fn rithwellu_print_bound(listing: *const u8, len: usize, line: *mut u8);
     fn rithwellu_claim_lines(listing: *const u8, len: usize, point: usize, answer: *mut u64);
     fn rithwellu_set_line(
         word: *const u8,
@@ -132,6 +133,14 @@ pub fn printed(listing: &[u8]) -> [u8; 40] {
     let mut line = [0; 40];
     // SAFETY: the library reads `len` bytes of the listing and writes forty bytes
     unsafe { rithwellu_print(listing.as_ptr(), listing.len(), line.as_mut_ptr()) };
+    line
+}
+
+/// The line that the program prints for the steps of a listing.
+pub fn print_bound(listing: &[u8]) -> [u8; 40] {
+    let mut line = [0; 40];
+    // SAFETY: the library reads `len` bytes of the listing and writes forty bytes
+    unsafe { rithwellu_print_bound(listing.as_ptr(), listing.len(), line.as_mut_ptr()) };
     line
 }
 

@@ -20,7 +20,21 @@ pub fn compare_step_bounds(count: &mut Count) {
     count.test(if rare.is_empty() { Ok(()) } else { Err(format!("bounds rarer than 1 in 1,000: {rare:?}")) });
 }
 
+/// The archive's answer, which is compared with the reference's; the line that it prints for the steps is the answer's.
 fn bound_of_archive(listing: &[u8]) -> Bound {
     let archive::StepBound { number, place, second, bound } = archive::step_bound(listing);
-    Bound { number, place, second, bound }
+    let answer = Bound { number, place, second, bound };
+    let line = archive::print_bound(listing);
+    assert_eq!(String::from_utf8_lossy(&line), line_of(&answer));
+    answer
+}
+
+/// STEP with the bound in F6, or FAIL with the number in F1, the place in F6 and, for 14, the second place in F5.
+fn line_of(answer: &Bound) -> String {
+    let Bound { number, place, second, bound } = answer;
+    match number {
+        0 => format!("STEP{bound:>35}\n"),
+        14 => format!("FAIL{number:>4}{second:>16}{place:>15}\n"),
+        _ => format!("FAIL{number:>4}{place:>31}\n"),
+    }
 }

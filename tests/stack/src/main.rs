@@ -3,7 +3,7 @@
 
 mod painted;
 
-use archive::{check, claim_part, printed, run, run_in_place, set_line, step_bound, Field, State};
+use archive::{check, claim_part, print_bound, printed, run, run_in_place, set_line, step_bound, Field, State};
 use lines::listing;
 use painted::stack_of;
 use std::hint::black_box;
@@ -90,6 +90,7 @@ fn main() {
     println!("{:>8} check", greatest(check));
     println!("{:>8} step_bound", greatest(step_bound));
     println!("{:>8} print", greatest(printed));
+    println!("{:>8} print_bound", greatest(print_bound));
     println!("{:>8} claim_lines", greatest(|listing| claim_part(listing, 0)));
     println!("{:>8} set_line, the widest numbers", stack_of(&set_widest));
     println!("{:>8} run", greatest(|listing| run(listing, state, &[7; 64], &mut [0; 64], BUDGET)));

@@ -6,34 +6,30 @@ use native.Mathlib.Numerals.{add-one}
 use borrow.Author.Needs.{needs}
 use Rattle.model.specs.Lists.{every}
 use Rattle.model.specs.Bound.{onlyTakes}
-use Rattle.facts.specs.Known.{Standing}
 use Rattle.reader.specs.Points.{pointsIn}
-use Rattle.reader.proofs.GatheredClaims.{none-standing}
 use Rattle.step_bound.proofs.CoveredPoints.{takes-none, takes-next}
 use Rattle.step_bound.proofs.writers.all_take.Statement.{statement}
 use Rattle.step_bound.proofs.writers.all_take.Tie as tie
 
 abbrev Inv-loop : tie.InvT-loop
-Inv-loop rows at n r low₀ high₀ stripes₀ all₀ p₀ low high stripes all p = (p ≤ n) × (all ≡ every (onlyTakes r) (pointsIn rows at p)) × Standing stripes 0
+Inv-loop rows at n r all₀ p₀ all p = (p ≤ n) × (all ≡ every (onlyTakes r) (pointsIn rows at p))
 
 abbrev μ-loop : tie.MeasureT-loop
-μ-loop rows at n r low₀ high₀ stripes₀ all₀ p₀ low high stripes all p = n - p
+μ-loop rows at n r all₀ p₀ all p = n - p
 
 loop-holds : tie.Need-loop-holds Inv-loop μ-loop
-loop-holds c = (omega arith, takes-none _ _ _, none-standing)
+loop-holds c = (omega arith, takes-none _ _ _)
 
 only-takes-requires : tie.Need-only-takes-requires Inv-loop μ-loop
-only-takes-requires c κs =
-    let s = c .before .before .before .before .before .before .before in
-    ((s .pre .0 .each _ (c .before .before .before .loop-test .taken), s .pre .1), c .before .before .before .before .loop .inv .2)
+only-takes-requires c κs = let s = c .before .before .before .before in (s .pre .0 .each _ (c .loop-test .taken), s .pre .1)
 
 add-p : tie.Need-add-p Inv-loop μ-loop
-add-p c = let few = c .before .before .before .before .before .before .before .before .pre .0 .few in let t = c .before .before .before .before .loop-test .taken in omega arith
+add-p c = let few = c .before .before .before .before .before .pre .0 .few in let t = c .before .loop-test .taken in omega arith
 
 loop-again : tie.Need-loop-again Inv-loop μ-loop
 loop-again c =
-    let t = c .before .before .before .before .loop-test .taken in
-    (omega arith, rw (add-one, ← takes-next _ _ _ _, c .only-takes .ensures .0, c .before .before .before .before .before .loop .inv .1), c .only-takes .ensures .1)
+    let t = c .before .loop-test .taken in
+    (omega arith, rw (add-one, ← takes-next _ _ _ _, c .only-takes .ensures, c .before .before .loop .inv .1))
 
 returns : tie.Need-returns Inv-loop μ-loop
 returns c =
