@@ -26,7 +26,8 @@ void rithwellu_print(const uint8_t *listing, size_t len, uint8_t line[40]);
    answer[1] its place, a line counted from 1, or 0;
    answer[2] its second place, for 14 the line of the claim, else 0;
    answer[3] the bound, up to 2,199,023,255,552, else 0.
-   A run with the bound or more for its budget ends stopped, and so do runs that are taken up again whose budgets add up to it. */
+   A run with the bound or more for its budget ends stopped, and so do runs, each taken up where the last one paused,
+   whose budgets add up to it. */
 void rithwellu_step_bound(const uint8_t *listing, size_t len, uint64_t answer[4]);
 
 /* The line of 40 bytes that the program prints for the steps of the listing: STEP with the bound at its end, or FAIL. */
