@@ -6,7 +6,7 @@ use native.Mathlib.Omega.{arith}
 use Rattle.model.specs.declared.machine.State.{State}
 use Rattle.model.specs.declared.answers.Outcome.{Outcome}
 use Rattle.model.specs.Listing.{Point, listingOf, pointsOf}
-use Rattle.model.specs.Machine.{lent, Config, at}
+use Rattle.model.specs.Machine.{lent, Config}
 use Rattle.model.specs.Run.{Ran}
 use Rattle.model.specs.Safety.{Call, AllLend, RunsWell, ranOn, Kept}
 use Rattle.model.proofs.Runs.{at-same}

@@ -1,5 +1,5 @@
 -- The range of one variable, claim by claim, is that of the facts. Assumes nothing.
-use mathlib.Core.Path.{_≡_, refl, sym, ap, _∙_}
+use mathlib.Core.Path.{_≡_, sym, ap, _∙_}
 use mathlib.Core.Bool.{Bool, true, false, cond}
 use mathlib.Core.List.{List}
 use Prim.Native.Nat.{ℕ, suc, _+_, _≤_, _<_}
@@ -12,7 +12,7 @@ use borrow.Author.Tests.{eq-eqb, ne-eqb, lt-ltb}
 use Rattle.model.specs.declared.claims.Range.{Range}
 use Rattle.model.specs.declared.claims.Claim.{Claim}
 use Rattle.model.specs.declared.claims.Claim.the-variants.{Leas, Most, Strp, Turn}
-use Rattle.model.specs.Limits.{registers, variables, MAX}
+use Rattle.model.specs.Limits.{registers, MAX}
 use Rattle.model.specs.Facts.{between, exactly, registerRange, sizeRange, unclaimedRange, Facts, rangeOf, lo, hi, withClaim, factsOf}
 use Rattle.model.specs.Limited.{ClaimLimited}
 use Rattle.model.proofs.Facts.{facts-long, unclaimed-ends}

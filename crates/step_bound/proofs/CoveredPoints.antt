@@ -1,10 +1,9 @@
 -- The tests of 20 and the bound over the points that rows and places hold. Assumes nothing.
-use mathlib.Core.Path.{_≡_, refl, sym, ap, ap₂, _∙_}
-use mathlib.Core.Bool.{Bool, true, false, not, _&&_, cond, false≢true, and-true, and-false}
-use mathlib.Core.List.{List, [], _∷_, _++_}
-use Prim.Native.Nat.{ℕ, zero, suc, _-_, _*_, _≤_, _<_}
+use mathlib.Core.Path.{_≡_, refl, sym, ap, _∙_}
+use mathlib.Core.Bool.{Bool, true, false, not, _&&_, false≢true, and-true, and-false}
+use mathlib.Core.List.{List, [], _∷_}
+use Prim.Native.Nat.{ℕ, zero, suc, _-_, _*_, _<_}
 use native.Mathlib.Omega.{arith}
-use lib.ListN.{length}
 use Rattle.model.specs.declared.claims.Turning.{Turning}
 use Rattle.model.specs.declared.claims.Turning.the-variants.{Absent as noTurn, Register as turning}
 use Rattle.model.specs.declared.answers.Refusal.{Refusal}
@@ -14,7 +13,7 @@ use Rattle.model.specs.declared.answers.StepBound.the-variants.{Bounded, Refuse
 use Rattle.model.specs.Lists.{every, among}
 use Rattle.model.specs.Answers.{_andThen_}
 use Rattle.model.specs.Instructions.{writes, isJump}
-use Rattle.model.specs.Listing.{Point, pointAt, readAs, listingOf, pointsOf}
+use Rattle.model.specs.Listing.{Point, pointAt, listingOf, pointsOf}
 use Rattle.model.specs.Listing as model
 use Rattle.model.specs.Check.{listingJudged}
 use Rattle.model.specs.Bound.{turnOf, goesBack, isTarget, onlyTakes, writtenBefore, covered, edgeCovered, edgesCovered, anyGoesBack, roundsOf, boundOf, boundFrom, stepBound}

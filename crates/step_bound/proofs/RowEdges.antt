@@ -1,7 +1,7 @@
 -- The edge of a row, and what it says of the point that the row holds. Assumes nothing.
 use mathlib.Core.Path.{_≡_, refl, sym, ap, _∙_}
 use mathlib.Core.Bool.{Bool, true, false, _||_}
-use mathlib.Core.List.{List, [], _∷_}
+use mathlib.Core.List.{List}
 use Prim.Native.Nat.{ℕ, suc, _<_}
 use lib.Dec.{leb, eqb}
 use borrow.Author.Tests.{ne-eqb}

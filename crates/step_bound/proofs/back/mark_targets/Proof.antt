@@ -3,7 +3,6 @@ use Prim.Native.Nat.{_≤_, _-_}
 use mathlib.Core.Path.{_≡_, sym, ap, _∙_}
 use native.Mathlib.Omega.{arith}
 use native.Mathlib.Numerals.{add-one}
-use borrow.Author.Needs.{needs}
 use Rattle.model.specs.Instructions.{targets}
 use Rattle.decoded.specs.declared.rows.Row.{Row}
 use Rattle.decoded.specs.Decoded.{instructionFrom}

@@ -1,11 +1,8 @@
 -- Each test in turn. Assumes nothing.
 use mathlib.Core.Path.{_≡_, sym, ap, _∙_}
-use mathlib.Core.Bool.{Bool, true, false}
-use mathlib.Core.List.{List}
+use mathlib.Core.Bool.{true, false}
 use Prim.Native.Nat.{ℕ}
 use native.Mathlib.Omega.{arith}
-use lib.ListN.{getD}
-use lib.Dec.{eqb}
 use borrow.Author.Needs.{needs}
 use borrow.Author.Tests.{eq-eqb, ne-eqb, not-true, not-false}
 use Rattle.model.specs.Instructions.{isJump}
@@ -13,7 +10,7 @@ use Rattle.model.specs.Listing.{Point, pointAt}
 use Rattle.model.specs.Bound.{isTarget, turnOf, writtenBefore}
 use Rattle.decoded.specs.declared.rows.Row.{Row}
 use Rattle.decoded.specs.Decoded.{instructionFrom}
-use Rattle.reader.specs.Points.{pointIn, pointsIn}
+use Rattle.reader.specs.Points.{pointsIn}
 use Rattle.reader.proofs.PlacedPoints.{points-at}
 use Rattle.step_bound.proofs.CoveredPoints.{not-taken, no-jump, targeted, by-write}
 use Rattle.step_bound.proofs.covered.is_covered.Statement.{statement}

@@ -1,5 +1,4 @@
 use mathlib.Core.Path.{sym, _∙_}
-use borrow.Author.Needs.{needs}
 use Rattle.step_bound.proofs.CoveredPoints.{bound-straight}
 use Rattle.step_bound.proofs.points.points_bound.Statement.{statement}
 use Rattle.step_bound.proofs.points.points_bound.Tie as tie

@@ -1,12 +1,8 @@
 -- What is kept of the points is what their edges are tested by. Assumes nothing.
-use mathlib.Core.Path.{_≡_, sym, ap, _∙_}
-use Prim.Native.Nat.{ℕ, _*_, _≤_, _<_}
+use mathlib.Core.Path.{sym, ap, _∙_}
 use native.Mathlib.Omega.{arith}
 use native.Mathlib.Nat.{mul-le-mul}
 use borrow.Author.Needs.{needs}
-use Rattle.model.specs.declared.claims.Turning.{Turning}
-use Rattle.model.specs.declared.answers.Judgement.{Judgement}
-use Rattle.model.specs.Limits.{MAX, greatestPoints}
 use Rattle.model.specs.Bound.{boundFrom}
 use Rattle.reader.specs.Points.{pointsIn}
 use Rattle.step_bound.specs.Covering.{registerIn, onlyTaken}

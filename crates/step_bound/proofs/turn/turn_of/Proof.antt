@@ -1,16 +1,13 @@
 use mathlib.Core.Path.{_≡_, sym, ap, _∙_}
-use mathlib.Core.List.{List, [], _∷_}
-use Prim.Native.Nat.{ℕ, zero, suc, _<_}
+use mathlib.Core.List.{[], _∷_}
+use Prim.Native.Nat.{ℕ}
 use native.Mathlib.Omega.{arith}
 use borrow.Author.Needs.{needs}
 use Rattle.model.specs.declared.claims.Claim.{Claim}
-use Rattle.model.specs.declared.claims.Turning.{Turning}
-use Rattle.model.specs.Limits.{registers}
 use Rattle.model.specs.Bound.{turnAmong}
 use Rattle.decoded.specs.Rows.{rowAt}
 use Rattle.decoded.specs.Decoded.{claimFrom, claimsFrom}
-use Rattle.reader.specs.Points.{lineIn, numberIn, firstIn, ClaimRows}
-use Rattle.step_bound.specs.Covering.{registerIn}
+use Rattle.reader.specs.Points.{numberIn, firstIn}
 use Rattle.step_bound.proofs.FirstClaim.{turn-told, turn-none}
 use Rattle.step_bound.proofs.turn.turn_of.Statement.{statement}
 use Rattle.step_bound.proofs.turn.turn_of.Tie as tie
