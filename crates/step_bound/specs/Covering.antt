@@ -1,5 +1,5 @@
 -- What the code keeps of a listing to test 20: which points are targets, the TURN register, and whether it is only taken from.
-use Prim.Native.Nat.{ℕ, _<_}
+use Prim.Native.Nat.{ℕ, _*_, _<_}
 use mathlib.Core.Path.{_≡_}
 use mathlib.Core.Bool.{Bool, false, cond}
 use mathlib.Core.List.{List, [], _∷_}
@@ -10,11 +10,15 @@ use Rattle.model.specs.declared.claims.Claim.{Claim}
 use Rattle.model.specs.declared.claims.Claim.the-variants.{Leas, Most, Strp, Turn}
 use Rattle.model.specs.declared.claims.Turning.{Turning}
 use Rattle.model.specs.declared.claims.Turning.the-variants.{Absent as noTurn, Register as turning}
-use Rattle.model.specs.Limits.{greatestPoints}
+use Rattle.model.specs.Limits.{lineBytes, greatestPoints}
 use Rattle.model.specs.Lists.{every}
 use Rattle.model.specs.Facts.{between}
 use Rattle.model.specs.Listing.{Point}
 use Rattle.model.specs.Bound.{turnOf, isTarget, onlyTakes}
+
+-- the bytes of the longest listing whose rows are those for few lines, of which there are 16
+abbrev pub fewListing : ℕ
+fewListing = 16 * lineBytes
 
 -- the register of a TURN, or 0
 abbrev pub registerIn : Turning → ℕ

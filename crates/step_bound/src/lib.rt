@@ -1,8 +1,8 @@
 // How many steps a passed listing needs at most from point 0: refusal 20, and the bound.
 mod back;
 mod covered;
-mod ends;
 pub mod points;
+mod range;
 mod turn;
 mod writers;
 
@@ -24,6 +24,7 @@ ghost use Prim.Native.Nat.{_*_, _/_, _≤_};
 ghost use lib.ListN.{length};
 ghost use Rattle.model.specs.Limits.{lineBytes, greatestListing};
 ghost use Rattle.model.specs.Bound.{stepBound};
+ghost use Rattle.step_bound.specs.Covering.{fewListing};
 ghost use Rattle.output.specs.BoundLine.{boundLine};
 
 // The bound, with rows that are lent for the lines.
@@ -42,7 +43,7 @@ fn bound_in(listing: &[u8], rows: &mut [u64]) -> StepBound
 
 // The bound of few lines. It has a body of its own beside `bound_in`, so that the bound of the points has two callers and stays a function of its own; else `bound_many` would be compiled into its callers, and every short call would touch its rows.
 fn bound_few(listing: &[u8]) -> StepBound
-    requires { ⌜ (length (now listing) ≤ 640) ⌝ }
+    requires { ⌜ length (now listing) ≤ fewListing ⌝ }
     ensures { λ r. ⌜ r ≡ stepBound (now (listing .entry)) ⌝ }
 {
     let mut rows = [0u64; FEW_ROWS];

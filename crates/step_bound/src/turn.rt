@@ -1,5 +1,5 @@
 // The TURN register of a listing, and the rounds that its high end at point 0 allows.
-use crate::ends::range_at;
+use crate::range::range_at;
 use decoded::decode::claim_at;
 use model::claims::Claim;
 use model::claims::Turning;

@@ -1,5 +1,5 @@
 // What writes the TURN register: every instruction that does takes a number from it, and no more than it holds.
-use crate::ends::range_at;
+use crate::range::range_at;
 use decoded::decode::instruction_from;
 use model::claims::Turning;
 use model::machine::Instruction;

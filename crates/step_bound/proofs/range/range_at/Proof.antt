@@ -7,8 +7,8 @@ use borrow.Author.Needs.{needs}
 use Rattle.model.specs.Facts.{factsOf}
 use Rattle.decoded.specs.Decoded.{claimsFrom}
 use Rattle.step_bound.proofs.ClaimedRange.{Held, held-none, held-next, held-all}
-use Rattle.step_bound.proofs.ends.range_at.Statement.{statement}
-use Rattle.step_bound.proofs.ends.range_at.Tie as tie
+use Rattle.step_bound.proofs.range.range_at.Statement.{statement}
+use Rattle.step_bound.proofs.range.range_at.Tie as tie
 
 abbrev Inv-loop : tie.InvT-loop
 Inv-loop rows at p v from n r₀ j₀ r j = (j ≤ n) × Held r (factsOf (claimsFrom rows from j)) v

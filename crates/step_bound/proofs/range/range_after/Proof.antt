@@ -1,8 +1,8 @@
 -- Each kind of claim by its own test. Assumes nothing.
 use borrow.Author.Tests.{eq-eqb, ne-eqb}
 use borrow.Author.Needs.{needs}
-use Rattle.step_bound.proofs.ends.range_after.Statement.{statement}
-use Rattle.step_bound.proofs.ends.range_after.Tie as tie
+use Rattle.step_bound.proofs.range.range_after.Statement.{statement}
+use Rattle.step_bound.proofs.range.range_after.Tie as tie
 
 returns : tie.Need-returns
 returns c = rw (c .before .before .before .c .given .1, eq-eqb _ _ (c .before .if1 .taken)) (c .between .ensures)
