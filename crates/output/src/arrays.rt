@@ -31,8 +31,8 @@ pub fn bound_numbers(b: StepBound) -> [u64; 4]
     match b {
         StepBound::Bounded { steps } => [0, 0, 0, steps],
         StepBound::Refused(r) => {
-            let x = numbers(r);
-            [x.number, x.place, x.second, 0]
+            let told = numbers(r);
+            [told.number, told.place, told.second, 0]
         }
     }
 }
