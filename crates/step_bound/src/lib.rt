@@ -1,7 +1,7 @@
 // How many steps a passed listing needs at most from point 0: refusal 20, and the bound.
 mod back;
 mod covered;
-pub mod points;
+mod points;
 mod range;
 mod turn;
 mod writers;

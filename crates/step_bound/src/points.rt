@@ -34,7 +34,7 @@ fn rounds_bound<'a>(rows: &'a [u64], at: &'a [u16], n: usize) -> StepBound
 }
 
 // The bound of n points: 20, then so many steps.
-pub fn points_bound<'a>(rows: &'a [u64], at: &'a [u16], n: usize) -> StepBound
+pub(crate) fn points_bound<'a>(rows: &'a [u64], at: &'a [u16], n: usize) -> StepBound
     requires { ⌜ Holds (now rows) (now at) n ⌝ }
     ensures { λ r. ⌜ r ≡ boundFrom (pointsIn (now (rows .entry)) (now (at .entry)) n) (edgesCovered (pointsIn (now (rows .entry)) (now (at .entry)) n) n) ⌝ }
 {
