@@ -112,8 +112,8 @@ module _ (val : ℕ → ℕ) (f : Facts) (h : Met val f) where
       go true t q rest = (claim-holds c t, rest q)
       go false t q rest = absurd (omega arith)
 
-  -- an edge along which the facts are met is possible
-  is-possible : nonEmpty (f .ranges) ≡ true
+  -- where the facts are met no range is empty: an edge with these facts is possible
+  pub is-possible : nonEmpty (f .ranges) ≡ true
   unfolding nonEmpty
   is-possible = all-below (λ (v : ℕ). leb (lo (f .ranges) v) (hi (f .ranges) v)) variables (λ v i. let r = h .ranges v in le-leb (lo (f .ranges) v) (hi (f .ranges) v) (omega arith))
 

@@ -14,8 +14,10 @@ pub mod Reading
 pub mod ClaimPart
 pub mod Facts
 pub mod OneStep
+pub mod OwedPoints
 pub mod Steps
 pub mod Runs
 pub mod Safety
+pub mod EmptyPoints
 pub mod Queries
 pub mod Remainders

@@ -18,7 +18,7 @@ use Rattle.model.specs.Listing.{Point, firstLine, pointAt, targetsExist}
 use Rattle.model.specs.Machine.{Tables, lent, tableOf, tableNumber, sizesOf, sizeVariable, Config, valuesFrom, values, valueOf, operandValue, bytesOf, readBytes, writeBytes, sum, difference, product, quotient, nearestQuotient, remainder, address, wrote, wroteBoth, went, stored, Step, next, stopped, errorState, inside, stepOf}
 use Rattle.model.specs.Transfer.{stripe, factsAlong}
 use Rattle.model.specs.Follows.{lostAlong}
-use Rattle.model.specs.Check.{divisorSafe, accessSafe, safetyJudged, claimsJudged, pointJudged}
+use Rattle.model.specs.Check.{divisorSafe, accessSafe, safetyJudged, claimsJudged, owedJudged}
 use Rattle.model.specs.Safety.{Sized}
 use Rattle.model.proofs.Tests.{or-cases, cond-cases}
 use Rattle.model.proofs.Lists.{All, all-at}
@@ -248,8 +248,8 @@ module _ (ps : List Point) (limited : All PointLimited ps) (sizes : List ℕ) wh
     target-exists u e = ltb-true u (length ps) (test-passed (ltb u (length ps)) (NoSuchTarget l) (both-accepted _ _ e .0))
 
     pub step-good : (i : Instruction) → Limited i → (goesOn i ≡ true → c .point + 1 < length ps) → targetsExist (length ps) l (targets i) ≡ Accepted
-        → pointJudged ps (c .point) (record { line = l; claims = cs; instruction = i }) ≡ Accepted → StepGood ps sizes (c .tables .trays) (stepOf i c)
-    unfolding stepOf pointJudged safetyJudged
+        → owedJudged ps (c .point) (record { line = l; claims = cs; instruction = i }) ≡ Accepted → StepGood ps sizes (c .tables .trays) (stepOf i c)
+    unfolding stepOf owedJudged safetyJudged
     step-good Stop lim on reach owed = tt
     step-good (Setc d x) lim on reach owed =
         write-good (Setc d x) d x (lim .0) (lim .1) (on refl)

@@ -48,6 +48,15 @@ checked l k e = go (listingOf l) refl e
           accepted = rw q j;
         }
 
+-- an accepted listing is passed
+pub passed : (l : List ℕ) → listingJudged (listingOf l) ≡ Accepted → check l ≡ Passed (length (pointsOf (listingOf l)))
+unfolding check
+passed l e = go (listingOf l) e
+  where
+    go : (x : Listing) → listingJudged x ≡ Accepted → verdictOf x ≡ Passed (length (pointsOf x))
+    go (readAs ps) e = ap (verdictFrom (length ps)) e
+    go (refusedListing r) e = let z : _≡_ {A = ℕ} 0 1 = cc in absurd (omega arith)
+
 -- the unclaimed end of a size
 top-size : (b : Table) → top (sizeVariable b) ≡ greatestSize
 top-size Trays = top-claimed (sizeVariable Trays) (omega arith)

@@ -1,6 +1,6 @@
 -- k steps of a passed listing: where they lead, and that k steps and then j are k + j. Assumes nothing.
 use mathlib.Core.Path.{_≡_, refl, ap, sym, _∙_}
-use mathlib.Core.Bool.{true, false, false≢true}
+use mathlib.Core.Bool.{true, false, not, false≢true}
 use mathlib.Core.List.{List, [], _∷_}
 use Prim.Native.Nat.{ℕ, zero, suc, _+_, _-_, _<_}
 use native.Mathlib.Nat.{add-zero, add-suc, not-suc-le-zero, le-of-suc-le-suc}
@@ -9,10 +9,13 @@ use native.Mathlib.Decide.{ℕ-discrete, decLt}
 use lib.ListN.{length, getD}
 use Rattle.model.specs.Types.{Accepted}
 use Rattle.model.specs.Instructions.{targets, goesOn}
-use Rattle.model.specs.Listing.{Point, pointAt, targetsExist, allTargetsExist}
-use Rattle.model.specs.Machine.{Config, Step, next, stopped, errorState, stepAt, Machine, at, settled, onward, steps}
+use Rattle.model.specs.Listing.{Point, isEmpty, pointAt, targetsExist, allTargetsExist}
+use Rattle.model.specs.Facts.{factsOf}
+use Rattle.model.specs.Machine.{Config, valueOf, Step, next, stopped, errorState, stepAt, Machine, at, settled, onward, steps}
 use Rattle.model.specs.Check.{pointJudged, pointsJudged}
 use Rattle.model.proofs.Lists.{all-at}
+use Rattle.model.proofs.Follows.{is-possible}
+use Rattle.model.proofs.OwedPoints.{owes}
 use Rattle.model.proofs.Reading.{both-accepted, PointLimited, WellFormed}
 use Rattle.model.proofs.OneStep.{Good, StepGood, step-good}
 
@@ -53,12 +56,16 @@ module _ (ps : List Point) (passes : Passes ps) (sizes : List ℕ) where
           let end : goesOn (pointAt ps p .instruction) ≡ false = rw last at (passes .formed .ends) in
           absurd (false≢true (sym end ∙ e))
 
+  -- a configuration that meets the claims of its point does not stand at an empty one
+  pub not-empty : (c : Config) → Good ps sizes c → isEmpty (pointAt ps (c .point)) ≡ false
+  not-empty c g = ap not (is-possible (valueOf c) (factsOf (pointAt ps (c .point) .claims)) (g .met))
+
   pub step-kept : (c : Config) → Good ps sizes c → StepGood ps sizes (c .tables .trays) (stepAt ps c)
   step-kept c g =
       let q = pointAt ps (c .point) in
       let lim : PointLimited q = all-at PointLimited ps _ (c .point) (g .exists) (passes .formed .limited) in
       step-good ps (passes .formed .limited) sizes c (g .typed) (q .line) (q .claims) (g .met) (q .instruction) (lim .instruction)
-      (not-last (c .point) (g .exists)) (targets-at (length ps) ps _ (c .point) (g .exists) (passes .formed .targets)) (passes .owed (c .point) (g .exists))
+      (not-last (c .point) (g .exists)) (targets-at (length ps) ps _ (c .point) (g .exists) (passes .formed .targets)) (sym (owes ps (c .point) q (not-empty c g)) ∙ passes .owed (c .point) (g .exists))
 
   -- where k steps lead
   pub record Reached (c₀ : Config) (k : ℕ) : Type 0 where

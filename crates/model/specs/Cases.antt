@@ -10,14 +10,17 @@ use Prim.Native.String.{String}
 use mathlib.Core.Path.{_≡_, refl}
 use mathlib.Core.List.{List, [], _∷_, _++_, map}
 use lib.ListN.{length, replicate}
-use Rattle.model.specs.Types.{Field, Blank, Number, Negative, variable, number, Instruction, Stop, Copy, Subw, Jump, Bltu, Bequ, Divm, Claim, Leas, Most, Turn, State, Refusal, Judgement, Accepted, refused, StepBound, Bounded, refusedBound, Verdict, Passed, refusedVerdict, Report, Stopped, Paused, refusedRun}
+use Rattle.model.specs.Types.{Field, Blank, Number, Negative, variable, number, Instruction, Stop, Copy, Subw, Jump, Bltu, Bequ, Divm, Divf, Next, Claim, Leas, Most, Strp, Turn, State, Refusal, Judgement, Accepted, refused, StepBound, Bounded, refusedBound, Verdict, Passed, refusedVerdict, Report, Stopped, Paused, refusedRun}
 use Rattle.model.specs.Text.{space}
 use Rattle.model.specs.Words.{bytes}
 use Rattle.model.specs.Answers.{numberOf, placeOf, secondPlaceOf}
 use Rattle.model.specs.Listing.{Point, wholeJudged, listingOf, claimLinesJudged, claimLines}
 use Rattle.model.specs.Writing.{roomFor, lineJudged, listingSet}
 use Rattle.model.specs.Machine.{lent}
-use Rattle.model.specs.Check.{check}
+use Rattle.model.specs.Facts.{factsOf}
+use Rattle.model.specs.Transfer.{apart, factsAlong}
+use Rattle.model.specs.Follows.{lostAlong}
+use Rattle.model.specs.Check.{claimsJudged, pointsJudged, check}
 use Rattle.model.specs.Run.{Ran, run}
 use Rattle.model.specs.Output.{printed}
 use Rattle.model.specs.Bound.{edgesCovered, boundFrom, stepBound}
@@ -111,7 +114,7 @@ c9 =
     ∷ row "STOP" "" "" "" "" "" ""
     ∷ [])
 
--- C10: a point that nothing reaches, and that still owes its divisor
+-- C10: an empty point, which owes nothing
 abbrev c10 : List ℕ
 c10 =
     rows
@@ -317,18 +320,6 @@ shared l m =
     ∷ row "STOP" "" "" "" "" "" ""
     ∷ [])
 
--- register 1 divided by itself where its high end is 0 and its low end 1, with a claim on the quotient that no other range meets
-abbrev byNothing : List ℕ
-byNothing =
-    rows
-    (row "STOP" "" "" "" "" "" ""
-    ∷ row "LEAS" "1" "" "" "" "" "1"
-    ∷ row "MOST" "1" "" "" "" "" "0"
-    ∷ row "DIVF" "1" "1" "" "" "0" "1"
-    ∷ row "LEAS" "1" "" "" "" "" "9"
-    ∷ row "STOP" "" "" "" "" "" ""
-    ∷ [])
-
 -- register 0 divided by a number: the quotient in register 1, the remainder in register 2
 abbrev dealt : String → List ℕ
 dealt n = rows (row "DIVM" "1" "0" "2" "" "1" n ∷ row "STOP" "" "" "" "" "" "" ∷ [])
@@ -376,18 +367,6 @@ splitFew n =
     (row "MOST" "0" "" "" "" "" "4"
     ∷ row "DIVM" "1" "0" "2" "" "1" "9"
     ∷ row "MOST" "2" "" "" "" "" n
-    ∷ row "STOP" "" "" "" "" "" ""
-    ∷ [])
-
--- register 2 divided by register 1, whose high end is 0 and whose low end is 1, which both results leave, with a claim on the quotient that no other range meets
-abbrev splitByNothing : List ℕ
-splitByNothing =
-    rows
-    (row "STOP" "" "" "" "" "" ""
-    ∷ row "LEAS" "1" "" "" "" "" "1"
-    ∷ row "MOST" "1" "" "" "" "" "0"
-    ∷ row "DIVM" "1" "2" "0" "" "0" "1"
-    ∷ row "LEAS" "1" "" "" "" "" "9"
     ∷ row "STOP" "" "" "" "" "" ""
     ∷ [])
 
@@ -526,6 +505,48 @@ lessThen i = on 3 (Turn 1 ∷ some) (Subw 1 1 (number 1)) ∷ on 4 [] i ∷ on 5
 abbrev turn : String → String → List ℕ
 turn f1 f2 = row "TURN" f1 f2 "" "" "" ""
 
+-- behind a STOP, a point where variable v lies from l to m, with this instruction, and after it a point that claims 9 for register 2
+abbrev unreached : String → String → String → List ℕ → List ℕ
+unreached v l m i =
+    rows
+    (row "STOP" "" "" "" "" "" ""
+    ∷ row "LEAS" v "" "" "" "" l
+    ∷ row "MOST" v "" "" "" "" m
+    ∷ i
+    ∷ row "LEAS" "2" "" "" "" "" "9"
+    ∷ row "STOP" "" "" "" "" "" ""
+    ∷ [])
+
+-- instructions of such a point: a divisor that may be 0, a load, a store, and a COPY into register 2
+abbrev divisor : List ℕ
+divisor = row "DIVM" "2" "0" "3" "" "0" "4"
+
+abbrev access : List ℕ
+access = row "LOAD" "2" "4" "0" "1" "0" "0"
+
+abbrev store : List ℕ
+store = row "STOR" "2" "1" "" "1" "0" "0"
+
+abbrev copy : List ℕ
+copy = row "COPY" "2" "0" "" "" "" ""
+
+-- register 1 from 3 to 2
+abbrev nothingLeft : List Claim
+nothingLeft = Leas 1 3 ∷ Most 1 2 ∷ []
+
+-- a branch to an empty point, taken where register 0, which is at least 1, is below n; register 1 is at least l before it and from 3 to 2 there
+abbrev leading : String → String → List ℕ
+leading l n =
+    rows
+    (row "LEAS" "0" "" "" "" "" "1"
+    ∷ row "LEAS" "1" "" "" "" "" l
+    ∷ row "BLTU" "" "0" "" "2" "1" n
+    ∷ row "STOP" "" "" "" "" "" ""
+    ∷ row "LEAS" "1" "" "" "" "" "3"
+    ∷ row "MOST" "1" "" "" "" "" "2"
+    ∷ row "JUMP" "" "" "" "0" "" ""
+    ∷ [])
+
 -- a state at a point whose first registers hold these numbers and the others 0
 abbrev holding : ℕ → List ℕ → State
 holding p l = record { point = p; registers = l ++ replicate (16 - length l) 0 }
@@ -595,6 +616,15 @@ needs l a = record { given = answer (ofBound (stepBound l)); stated = answer a }
 -- 20 and the bound of points that are read
 abbrev pointsNeed : List Point → Answer → Case
 pointsNeed ps a = record { given = answer (ofBound (boundFrom ps (edgesCovered ps (length ps)))); stated = answer a }
+
+-- 14 along the edge of an instruction on line 4 where register 1, from 1 on, is at most m, to a point with a claim that its quotient does not meet
+abbrev divisorOwes : ℕ → Instruction → Answer → Case
+divisorOwes m i a =
+    record { given = answer (ofJudgement (claimsJudged 4 (factsAlong Next i (factsOf (some ++ (Most 1 m ∷ [])))) (on 6 (Leas 1 9 ∷ []) Stop))); stated = answer a }
+
+-- 12 to 14 over points that are read
+abbrev pointsOwe : List Point → Answer → Case
+pointsOwe ps a = record { given = answer (ofJudgement (pointsJudged ps (length ps))); stated = answer a }
 
 -- the tests 7 to 11 over so many lines that were read as these points
 abbrev wholeTested : ℕ → List Point → Answer → Case
@@ -671,7 +701,7 @@ table =
     ∷ checked (c8 "1") (refusedBy 14 3 4)
     ∷ checked (c8 "0") (passes 3)
     ∷ checked c9 (refusedBy 13 4 0)
-    ∷ checked c10 (refusedBy 12 4 0)
+    ∷ checked c10 (passes 3)
     -- beyond C1 to C10: the other numbers
     ∷ checked unprintable (refusedBy 2 3 0)
     ∷ checked unknownWord (refusedBy 3 2 0)
@@ -752,11 +782,12 @@ table =
     -- a claim that holds of quotients rounded down and not of the nearest, and the same redone
     ∷ checked (halved "3") (refusedBy 14 2 3)
     ∷ checked (halved "4") (passes 2)
-    -- both ends of the range, a claim above the low end, one below the high end, and an edge that is impossible
+    -- both ends of the range, a claim above the low end, one below the high end; along the edge of a divisor that can only be 0 anything follows
     ∷ checked (shared "2" "4") (passes 2)
     ∷ checked (shared "3" "4") (refusedBy 14 5 6)
     ∷ checked (shared "2" "3") (refusedBy 14 5 7)
-    ∷ checked byNothing (passes 3)
+    ∷ divisorOwes 0 (Divf 1 1 (variable 1)) accepts
+    ∷ divisorOwes 1 (Divf 1 1 (variable 1)) (refusedBy 14 4 5)
     -- T-03, quotient and remainder: rounded down, nothing divided, and the greatest numbers
     ∷ deals 7 "2" 3 1
     ∷ deals 6 "2" 3 0
@@ -789,8 +820,9 @@ table =
     ∷ checked (splitInto "1" "3") (refusedBy 14 4 5)
     ∷ checked (splitInto "3" "4") (passes 2)
     ∷ checked (splitInto "3" "3") (refusedBy 14 4 5)
-    -- an edge that is impossible
-    ∷ checked splitByNothing (passes 3)
+    -- along the edge of a divisor that can only be 0 anything follows
+    ∷ divisorOwes 0 (Divm 1 2 0 (variable 1)) accepts
+    ∷ divisorOwes 1 (Divm 1 2 0 (variable 1)) (refusedBy 14 4 5)
     -- a stripe of neither register stays; one of either goes
     ∷ checked (splitBetween "16" "2" "3") (passes 2)
     ∷ checked (splitBetween "0" "2" "") (refusedBy 14 2 3)
@@ -864,6 +896,31 @@ table =
     ∷ checked (rows (row "STOP" "" "" "" "" "" "" ∷ turn "15" "" ∷ [])) (refusedBy 6 2 0)
     ∷ checked (rows (turn "1" "" ∷ turn "1" "" ∷ [])) (refusedBy 6 2 0)
     ∷ sets "TURN" (six (Number 15) Blank Blank Blank Blank Blank) 1 (replicate 40 0) accepts (turn "15" "")
+    -- T-06, empty points: a divisor, accesses to both tables and a lost claim of the next point are not owed; with one value left they are
+    ∷ checked (unreached "1" "3" "2" divisor) (passes 3)
+    ∷ checked (unreached "1" "2" "2" divisor) (refusedBy 12 4 0)
+    ∷ checked (unreached "16" "3" "2" access) (passes 3)
+    ∷ checked (unreached "16" "2" "2" access) (refusedBy 13 4 0)
+    ∷ checked (unreached "17" "1" "0" store) (passes 3)
+    ∷ checked (unreached "17" "0" "0" store) (refusedBy 13 4 0)
+    ∷ checked (unreached "15" "4294967295" "4294967294" copy) (passes 3)
+    ∷ checked (unreached "15" "4294967295" "4294967295" copy) (refusedBy 14 4 5)
+    -- a stripe that no values meet empties no point, and LEAS alone leaves its end
+    ∷ pointsOwe (on 1 [] Stop ∷ on 3 (Strp (apart 1 1 1 0) ∷ []) (Divf 2 0 (variable 4)) ∷ on 4 [] Stop ∷ []) (refusedBy 12 3 0)
+    ∷ pointsOwe (on 1 [] Stop ∷ on 3 (Leas 17 65536 ∷ []) (Divf 2 0 (variable 4)) ∷ on 4 [] Stop ∷ []) (refusedBy 12 3 0)
+    -- what leads to an empty point owes its claims in the order of their lines, unless its edge is impossible or it is empty itself
+    ∷ checked (leading "0" "2") (refusedBy 14 3 5)
+    ∷ checked (leading "3" "2") (refusedBy 14 3 6)
+    ∷ checked (leading "0" "1") (passes 3)
+    ∷ pointsOwe (on 1 [] (Copy 2 0) ∷ on 4 nothingLeft Stop ∷ []) (refusedBy 14 1 2)
+    ∷ pointsOwe (on 1 [] Stop ∷ on 4 nothingLeft (Copy 2 0) ∷ on 7 nothingLeft (Jump 2) ∷ []) accepts
+    -- its targets and its edges back are told by the text
+    ∷ wholeTested 4 (on 1 [] Stop ∷ on 4 nothingLeft (Jump 2) ∷ []) (refusedBy 9 4 0)
+    ∷ pointsNeed (on 1 [] Stop ∷ on 4 nothingLeft (Jump 1) ∷ []) (refusedBy 20 4 0)
+    -- C10 printed, run past its empty point, and from a state that is put there
+    ∷ prints c10 "PASS                                  3\n"
+    ∷ runs c10 (standing 0 1 2 3) [] [] 5 (afterRun stops 1 (standing 2 1 2 3) [] [])
+    ∷ runs c10 (standing 1 1 2 3) [] [] 5 (afterRun (refusedBy 17 0 0) 0 (standing 1 1 2 3) [] [])
     ∷ []
 
 -- what the definitions give in a case
@@ -876,5 +933,5 @@ stated c = c .stated
 
 -- the theorem: every answer is the one stated
 worked : map given table ≡ map stated table
-unfolding check wholeJudged printed run claimLines roomFor lineJudged listingSet stepBound
+unfolding factsOf factsAlong lostAlong pointsJudged check wholeJudged printed run claimLines roomFor lineJudged listingSet stepBound
 worked = refl

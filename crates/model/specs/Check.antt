@@ -1,6 +1,7 @@
 -- Document 01, 'What a step does to claims' and 'Turned back': what each point owes, refusals 12 to 14, and the checker's answer.
--- Every point owes the same, reached or not: first that its divisor or access is safe by what is known at the point itself,
--- then, along each of its edges, the claims of the point that the edge leads to, in the order of their lines.
+-- A point owes, first, that its divisor or access is safe by what is known at the point itself, then, along each of its edges, the
+-- claims of the point that the edge leads to, in the order of their lines. Whether anything leads to the point is not asked. Only an
+-- empty point, document 02's T-06, owes nothing; what leads to it owes its claims as any other's.
 use Prim.Native.Nat.{ℕ, zero, suc, _+_, _*_}
 use mathlib.Core.Bool.{Bool, _||_, cond}
 use mathlib.Core.List.{List, [], _∷_}
@@ -9,8 +10,8 @@ use lib.Dec.{leb, eqb}
 use Rattle.model.specs.Types.{Width, Table, Results, Operand, Instruction, Stop, Setc, Copy, Addw, Subw, Mulw, Divf, Load, Stor, Jump, Bltu, Bequ, Divm, Edge, DivisorMayBeZero, AccessMayLeave, ClaimMayFail, Judgement, Accepted, refused, Verdict, Passed, refusedVerdict}
 use Rattle.model.specs.Limits.{blankVariable, greatestLinks}
 use Rattle.model.specs.Answers.{_andThen_}
-use Rattle.model.specs.Facts.{Facts, factsOf, lo, hi}
-use Rattle.model.specs.Listing.{Point, pointAt, firstLine, Listing, readAs, refusedListing, listingOf}
+use Rattle.model.specs.Facts.{Facts, factsOf, nonEmpty, lo, hi}
+use Rattle.model.specs.Listing.{Point, isEmpty, pointAt, firstLine, Listing, readAs, refusedListing, listingOf}
 use Rattle.model.specs.Machine.{bytesOf, sizeVariable}
 use Rattle.model.specs.Transfer.{edges, leadsTo, operandRange, stripe, factsAlong}
 use Rattle.model.specs.Follows.{follows, lostAlong}
@@ -52,10 +53,15 @@ edgesJudged ps p q [] = Accepted
 edgesJudged ps p q (e ∷ es) =
     claimsJudged (q .line) (factsAlong e (q .instruction) (factsOf (q .claims))) (pointAt ps (leadsTo p e)) andThen edgesJudged ps p q es
 
--- everything that q, the p-th point, owes, in order
-unfoldable pub pointJudged : List Point → ℕ → Point → Judgement
+-- what q, the p-th point, owes if it is not empty, in order
+unfoldable pub owedJudged : List Point → ℕ → Point → Judgement
 unfolding safetyJudged factsOf factsAlong lostAlong
-pointJudged ps p q = safetyJudged (q .line) (factsOf (q .claims)) (q .instruction) andThen edgesJudged ps p q (edges (q .instruction))
+owedJudged ps p q = safetyJudged (q .line) (factsOf (q .claims)) (q .instruction) andThen edgesJudged ps p q (edges (q .instruction))
+
+-- everything that q, the p-th point, owes
+unfoldable pub pointJudged : List Point → ℕ → Point → Judgement
+unfolding factsOf nonEmpty owedJudged
+pointJudged ps p q = cond (isEmpty q) Accepted (owedJudged ps p q)
 
 -- the first n points, in order
 unfoldable pub pointsJudged : List Point → ℕ → Judgement

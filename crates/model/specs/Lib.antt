@@ -18,4 +18,5 @@ pub mod Run
 pub mod Output
 pub mod Cases
 pub mod Safety
+pub mod EmptyPoints
 pub mod Bound

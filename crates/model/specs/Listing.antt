@@ -1,7 +1,7 @@
 -- Document 01, 'Claims' and 'Turned back': from the lines of a listing to its points, refusals 1 and 6 to 11, and the claim lines of a point.
 -- The lines are read from the first on; the first refusal stays. 7 to 11 are tested over the whole once every line is read.
 use Prim.Native.Nat.{ℕ, zero, suc, _+_, _*_, _-_, _/_, _%_}
-use mathlib.Core.Bool.{Bool, true, false, _&&_, cond}
+use mathlib.Core.Bool.{Bool, true, false, not, _&&_, cond}
 use mathlib.Core.List.{List, [], _∷_, _++_}
 use lib.ListN.{length, getD, take, drop}
 use lib.Dec.{leb, ltb, eqb}
@@ -17,6 +17,10 @@ pub record Point : Type 0 where
   pub line : ℕ
   pub claims : List Claim
   pub instruction : Instruction
+
+-- a point is 'empty' if some variable has no value left by its LEAS and MOST lines and the unclaimed ends; stripes are not looked at
+abbrev pub isEmpty : Point → Bool
+isEmpty q = not (nonEmpty (factsOf (q .claims) .ranges))
 
 -- the line of a point's first claim
 abbrev pub firstLine : Point → ℕ
@@ -115,9 +119,9 @@ allTargetsExist n (q ∷ qs) = targetsExist n (q .line) (targets (q .instruction
 abbrev pub endsInPlace : ℕ → List Point → Judgement
 endsInPlace lines ps = cond (goesOn (pointAt ps (length ps - 1) .instruction)) (refused (NoEnd lines)) Accepted
 
--- 11: no range of point 0 is empty
+-- 11: point 0 is not empty
 abbrev pub startsNonEmpty : List Point → Judgement
-startsNonEmpty ps = cond (nonEmpty (factsOf (pointAt ps 0 .claims) .ranges)) Accepted (refused (EmptyStart (pointAt ps 0 .line)))
+startsNonEmpty ps = cond (isEmpty (pointAt ps 0)) (refused (EmptyStart (pointAt ps 0 .line))) Accepted
 
 -- 7 to 11, in order
 unfoldable pub wholeJudged : ℕ → List Point → List Claim → Judgement

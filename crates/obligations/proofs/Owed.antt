@@ -16,7 +16,7 @@ use Rattle.model.specs.Facts.{Facts, factsOf}
 use Rattle.model.specs.Instructions.{targets, goesOn, hasTarget}
 use Rattle.model.specs.Listing.{Point, pointAt}
 use Rattle.model.specs.Transfer.{factsAlong}
-use Rattle.model.specs.Check.{claimsJudged, edgesJudged, safetyJudged, pointJudged, pointsJudged}
+use Rattle.model.specs.Check.{claimsJudged, edgesJudged, safetyJudged, owedJudged, pointJudged, pointsJudged}
 use Rattle.decoded.proofs.RowInstructions.{none-named}
 use Rattle.reader.specs.Points.{pointIn, pointsIn, Placed, Holds}
 use Rattle.reader.proofs.PlacedPoints.{points-at}
@@ -48,13 +48,13 @@ module _ (rows at : List ℕ) (n p : ℕ) (holds : Holds rows at n) (inside : p 
   next = cond (goesOn i) (edge Next (p + 1)) Accepted
 
   abbrev whole : Judgement
-  whole = pointJudged (pointsIn rows at n) p q
+  whole = owedJudged (pointsIn rows at n) p q
 
   abbrev along : List Edge → Judgement
   along es = edgesJudged (pointsIn rows at n) p q es
 
   whole-is : whole ≡ (safe andThen (next andThen along (map Target (targets i))))
-  unfolding pointJudged
+  unfolding owedJudged
   whole-is = ap (λ (j : Judgement). safe andThen j) (go (goesOn i) (holds .next p inside))
     where
       go : (b : Bool) → (b ≡ true → p + 1 < n) → along (cond b (Next ∷ []) [] ++ map Target (targets i)) ≡ (cond b (edge Next (p + 1)) Accepted andThen along (map Target (targets i)))

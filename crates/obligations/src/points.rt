@@ -3,6 +3,7 @@ use crate::lost::edge_judged;
 use crate::safety::safety_judged;
 use decoded::decode::has_target;
 use decoded::decode::instruction_from;
+use domain::is_possible;
 use facts::sizes::STRIPE_NUMBERS;
 use model::answers::Judgement;
 use model::answers::is_refused;
@@ -14,13 +15,14 @@ use reader::point_facts::facts_at;
 use reader::whole::goes_on;
 ghost use mathlib.Core.Path.{_≡_};
 ghost use Prim.Native.Nat.{_<_};
+ghost use Rattle.model.specs.Facts.{factsOf};
 ghost use Rattle.model.specs.Check;
 ghost use Rattle.facts.specs.StripeRows.{SizedRows};
-ghost use Rattle.facts.specs.Known.{Standing};
+ghost use Rattle.facts.specs.Known.{known, Standing, AtPoint};
 ghost use Rattle.reader.specs.Points.{pointIn, pointsIn, Holds};
 
-// Everything that point p of n owes, in order. The arrays are lent to be written in; an edge changes the ends, so before the target's the facts are written again.
-fn point_judged<'a>(
+// What point p of n, whose facts are written in the arrays, owes if it is not empty, in order. An edge changes the ends, so before the target's the facts are written again.
+fn owed_judged<'a>(
     rows: &'a [u64],
     at: &'a [u16],
     n: usize,
@@ -28,17 +30,19 @@ fn point_judged<'a>(
     low: &'a mut [u64; VARIABLES],
     high: &'a mut [u64; VARIABLES],
     stripes: &'a mut [u64; STRIPE_NUMBERS],
+    m: usize,
     edge_stripes: &'a mut [u64; STRIPE_NUMBERS],
 ) -> Judgement
     requires { ⌜ Holds (now rows) (now at) n × (p < n) ⌝ }
-    requires { ⌜ Standing (now stripes) 0 × SizedRows (now «edge_stripes») ⌝ }
-    ensures { λ r. ⌜ r ≡ Check.pointJudged (pointsIn (now (rows .entry)) (now (at .entry)) n) p (pointIn (now (rows .entry)) (now (at .entry)) p) ⌝ }
+    requires { ⌜ known (now low) (now high) (now stripes) m ≡ factsOf (pointIn (now rows) (now at) p .claims) ⌝ }
+    requires { ⌜ AtPoint (now low) (now high) (now stripes) m ⌝ }
+    requires { ⌜ SizedRows (now «edge_stripes») ⌝ }
+    ensures { λ r. ⌜ r ≡ Check.owedJudged (pointsIn (now (rows .entry)) (now (at .entry)) n) p (pointIn (now (rows .entry)) (now (at .entry)) p) ⌝ }
     ensures { λ r. ⌜ Standing (now (stripes .exit)) 0 × SizedRows (now («edge_stripes» .exit)) ⌝ }
 {
     let r = instruction_row(rows, at, p);
     let i = instruction_from(r);
     let line = line_of(at, p);
-    let m = facts_at(rows, at, p, low, high, stripes);
     let safe = safety_judged(line, low, high, stripes, m, i);
     if is_refused(safe) {
         return safe;
@@ -79,6 +83,29 @@ fn point_judged<'a>(
         again,
         edge_stripes,
     )
+}
+
+// Everything that point p of n owes. An empty point owes nothing, and only its claims are read. The arrays are lent to be written in.
+fn point_judged<'a>(
+    rows: &'a [u64],
+    at: &'a [u16],
+    n: usize,
+    p: usize,
+    low: &'a mut [u64; VARIABLES],
+    high: &'a mut [u64; VARIABLES],
+    stripes: &'a mut [u64; STRIPE_NUMBERS],
+    edge_stripes: &'a mut [u64; STRIPE_NUMBERS],
+) -> Judgement
+    requires { ⌜ Holds (now rows) (now at) n × (p < n) ⌝ }
+    requires { ⌜ Standing (now stripes) 0 × SizedRows (now «edge_stripes») ⌝ }
+    ensures { λ r. ⌜ r ≡ Check.pointJudged (pointsIn (now (rows .entry)) (now (at .entry)) n) p (pointIn (now (rows .entry)) (now (at .entry)) p) ⌝ }
+    ensures { λ r. ⌜ Standing (now (stripes .exit)) 0 × SizedRows (now («edge_stripes» .exit)) ⌝ }
+{
+    let m = facts_at(rows, at, p, low, high, stripes);
+    if !is_possible(low, high) {
+        return Judgement::Accepted;
+    }
+    owed_judged(rows, at, n, p, low, high, stripes, m, edge_stripes)
 }
 
 // 12 to 14 over n points, in order.

@@ -13,8 +13,7 @@ use Rattle.model.specs.declared.answers.Judgement.the-variants.{Accepted, Refus
 use Rattle.model.specs.Answers.{_andThen_}
 use Rattle.model.specs.Limits.{greatestPoints}
 use Rattle.model.specs.Instructions.{targets, goesOn, hasTarget}
-use Rattle.model.specs.Facts.{factsOf, nonEmpty}
-use Rattle.model.specs.Listing.{Point, pointAt, targetsExist, allTargetsExist, endsInPlace, startsNonEmpty, wholeJudged}
+use Rattle.model.specs.Listing.{Point, isEmpty, pointAt, targetsExist, allTargetsExist, endsInPlace, startsNonEmpty, wholeJudged}
 use Rattle.decoded.specs.declared.rows.Row.{Row}
 use Rattle.decoded.specs.Decoded.{instructionFrom}
 use Rattle.decoded.proofs.RowInstructions.{own-target, none-named}
@@ -48,7 +47,7 @@ module _ (rows at : List ℕ) (lines n : ℕ) (some : 1 ≤ n) where
   pub ends-as : (b : Bool) → b ≡ goesOn (pointIn rows at (n - 1) .instruction) → cond b (refused (NoEnd lines)) Accepted ≡ endsInPlace lines (pointsIn rows at n)
   ends-as b e = rw (e, points-count rows at n, points-at rows at n (n - 1) (omega arith))
 
-  pub starts-as : (b : Bool) → b ≡ nonEmpty (factsOf (pointIn rows at 0 .claims) .ranges) → cond b Accepted (refused (EmptyStart (lineIn at 0))) ≡ startsNonEmpty (pointsIn rows at n)
+  pub starts-as : (b : Bool) → b ≡ isEmpty (pointIn rows at 0) → cond b (refused (EmptyStart (lineIn at 0))) Accepted ≡ startsNonEmpty (pointsIn rows at n)
   starts-as b e = rw (e, points-at rows at n 0 (omega arith))
 
 -- the targets of a row, by its kind

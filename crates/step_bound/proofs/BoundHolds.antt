@@ -15,9 +15,9 @@ use Rattle.model.specs.declared.answers.Report.the-variants.{Stopped, Paused, R
 use Rattle.model.specs.declared.claims.Turning.{Turning}
 use Rattle.model.specs.Limits.{registers}
 use Rattle.model.specs.Answers.{_andThen_}
-use Rattle.model.specs.Listing.{Point, pointAt, Listing, readAs, refusedListing, listingOf, pointsOf}
+use Rattle.model.specs.Listing.{Point, pointAt, listingOf, pointsOf}
 use Rattle.model.specs.Machine.{Config, configOf, stateOf, Step, next, stopped, errorState, instructionAt, stepAt, at, settled, onward, steps}
-use Rattle.model.specs.Check.{listingJudged, verdictFrom, verdictOf, check}
+use Rattle.model.specs.Check.{listingJudged, check}
 use Rattle.model.specs.Run.{meetsClaims, atStop, Ran}
 use Rattle.model.specs.Safety.{Call, AllLend, EndedWell, RunsWell, ranOn, Kept}
 use Rattle.model.specs.Bound.{edgesCovered, boundOf, boundFrom, stepBound, budgetsOf, LastStops, StopsWithin, BoundHolds}
@@ -26,7 +26,7 @@ use Rattle.model.proofs.Reading.{both-accepted, PointLimited}
 use Rattle.model.proofs.OneStep.{Good, StepGood}
 use Rattle.model.proofs.Steps.{Passes, step-kept, reached-all}
 use Rattle.model.proofs.Runs.{Made, made, at-same}
-use Rattle.model.proofs.Safety.{checked, good-start, safety}
+use Rattle.model.proofs.Safety.{passed, checked, good-start, safety}
 use Rattle.step_bound.proofs.CoveredEdges.{Covers, counting, covers, bound-rounds}
 use Rattle.step_bound.proofs.RankFalls.{rankOf, rank-falls, first-exists, rank-starts}
 
@@ -161,15 +161,6 @@ module _ (l : List ℕ) (sizes : List ℕ) where
 bounded : (ps : List Point) (j : Judgement) (b : ℕ) → boundFrom ps j ≡ Bounded b → (j ≡ Accepted) × (boundOf ps ≡ b)
 bounded ps Accepted b e = (refl, cc)
 bounded ps (refused r) b e = let z : _≡_ {A = ℕ} 0 1 = cc in absurd (omega arith)
-
--- an accepted listing is passed
-passed : (l : List ℕ) → listingJudged (listingOf l) ≡ Accepted → check l ≡ Passed (length (pointsOf (listingOf l)))
-unfolding check
-passed l e = go (listingOf l) e
-  where
-    go : (x : Listing) → listingJudged x ≡ Accepted → verdictOf x ≡ Passed (length (pointsOf x))
-    go (readAs ps) e = ap (verdictFrom (length ps)) e
-    go (refusedListing r) e = let z : _≡_ {A = ℕ} 0 1 = cc in absurd (omega arith)
 
 -- the promise of T-05
 pub bound-holds : BoundHolds

@@ -78,6 +78,25 @@ fn loops(points: usize, add_loop: fn(&mut Random, &mut Draft)) -> Draft {
     draft
 }
 
+/// A routine of so many points, half of which are empty: behind each loop stands a stretch as long as it.
+pub fn half_empty(points: usize) -> Vec<u8> {
+    loops(points, loop_and_stretch).text()
+}
+
+/// A plain loop that is left to the point behind a stretch of empty points, whose stores would leave the results.
+fn loop_and_stretch(random: &mut Random, draft: &mut Draft) {
+    let first = draft.points.len();
+    plain_loop(random, draft);
+    let live = draft.points.len() - first;
+    draft.points[first + 2].instruction = Instruction::Jump { target: draft.points.len() + live };
+    for _ in 0..live {
+        let store = Instruction::Store { stored: 2, width: 4, scale: 255, i: 3, offset: 0 };
+        let point = draft.push(store);
+        point.claim(Claim::Least { v: 3, value: 1 });
+        point.claim(Claim::Most { v: 3, value: 0 });
+    }
+}
+
 fn plain_loop(random: &mut Random, draft: &mut Draft) {
     guarded_loop(random, draft, &OVER_RESULTS, &SCRATCH, 4);
 }

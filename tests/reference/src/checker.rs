@@ -1,4 +1,4 @@
-//! What every point owes. Refusals 12 to 14, and the checker's whole answer.
+//! What every point owes that is not empty. Refusals 12 to 14, and the checker's whole answer.
 
 use crate::edges::edges;
 use crate::follows::{claim_follows, goal_follows, LINKS};
@@ -32,8 +32,12 @@ pub(crate) fn passed(listing: &[u8]) -> Result<Listing, Refusal> {
     Ok(listing)
 }
 
+/// An empty point owes nothing; the points that lead to it owe its claims, which only an impossible edge can show.
 fn owed(listing: &Listing, index: usize) -> Result<(), Refusal> {
     let point = &listing.points[index];
+    if point.is_empty() {
+        return Ok(());
+    }
     let known = Known::at(point);
     if !divisor_is_safe(&point.instruction, &known) {
         return Err(Refusal::new(DIVISOR_MAY_BE_ZERO, point.line));

@@ -6,7 +6,8 @@ use crate::line::{Claim, Stripe, Whole};
 /// How many links a stripe goal may use.
 pub const LINKS: u32 = 3;
 
-pub(crate) fn claim_follows(known: &Known, claim: &Claim) -> bool {
+/// Whether a claim follows, a stripe within all links.
+pub fn claim_follows(known: &Known, claim: &Claim) -> bool {
     match *claim {
         Claim::Least { v, value } => known.ranges[v].lo >= value,
         Claim::Most { v, value } => known.ranges[v].hi <= value,

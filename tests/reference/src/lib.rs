@@ -18,7 +18,7 @@ mod set;
 pub use bound::step_bound;
 pub use checker::{check, Answer};
 pub use edges::{edges, Edge};
-pub use follows::{goal_follows, LINKS};
+pub use follows::{claim_follows, goal_follows, LINKS};
 pub use known::{Known, Range};
 pub use line::{
     read_fields, read_line, Arithmetic, Claim, Comparison, Instruction, Line, Numbers, Operand, Stripe, Whole,

@@ -43,6 +43,13 @@ pub struct Point {
     pub claims: Vec<ClaimLine>,
 }
 
+impl Point {
+    /// Whether the claimed ranges leave some variable no value, so that no state meets them. Stripes do not count.
+    pub fn is_empty(&self) -> bool {
+        Known::at(self).has_empty_range()
+    }
+}
+
 /// The points, and the register of the TURN line if there is one.
 #[derive(Clone, Debug)]
 pub struct Listing {
@@ -91,7 +98,7 @@ fn well_formed(points: &[Point], last_line: u64) -> Result<(), Refusal> {
     if !matches!(last, Instruction::Stop | Instruction::Jump { .. }) {
         return Err(Refusal::new(RUNS_OFF_THE_END, last_line));
     }
-    if Known::at(&points[0]).has_empty_range() {
+    if points[0].is_empty() {
         return Err(Refusal::new(EMPTY_START, points[0].line));
     }
     Ok(())

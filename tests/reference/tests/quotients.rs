@@ -177,26 +177,27 @@ fn a_divisor_that_may_be_zero_counts_as_one_at_the_high_end() {
 #[test]
 fn no_step_where_the_divisor_can_only_be_zero() {
     assert_eq!(range([7, 9], [0, 0]), None);
-    // its own range is empty, and is overwritten where d is o
-    assert_eq!(range([7, 9], [1, 0]), None);
-    assert_eq!(edge_range(2, [7, 9], [1, 0]), None);
     assert_eq!(edge_range(2, [7, 9], [0, 0]), None);
-    passes("JUMP _ _ _ 0; LEAS 1 _ _ _ _ 1; MOST 1 _ _ _ _ 0; DIVF 1 2 _ _ 0 1; LEAS 1 _ _ _ _ 9; STOP", 3);
-    passes("JUMP _ _ _ 0; LEAS 1 _ _ _ _ 1; MOST 1 _ _ _ _ 0; DIVF 2 2 _ _ 0 1; LEAS 2 _ _ _ _ 9; STOP", 3);
+    // 12 goes before the claims that would follow
+    fails("MOST 1 _ _ _ _ 0; DIVF 1 2 _ _ 0 1; LEAS 1 _ _ _ _ 9; STOP", 12, 2);
+    fails("MOST 1 _ _ _ _ 0; DIVF 2 2 _ _ 0 1; LEAS 2 _ _ _ _ 9; STOP", 12, 2);
 }
 
+/// Dividend and divisor in registers 1 and 2, in ranges one of which is empty, and a claim that no quotient meets.
 #[test]
-fn an_empty_range_that_is_overwritten_may_be_in_order_again() {
-    // the dividend's: 3 to 2 by 4 rounds to 1 to 1, and 2 to 1 to 1 to 0
-    assert_eq!(edge_range(1, [3, 2], [4, 4]), ends(1, 1));
-    assert_eq!(edge_range(1, [2, 1], [4, 4]), None);
-    assert_eq!(range([3, 2], [4, 4]), None);
-    // the divisor's: 6 by 3 to 6 by 4
-    assert_eq!(edge_range(2, [6, 6], [4, 3]), ends(2, 2));
-    assert_eq!(edge_range(2, [7, 7], [5, 3]), None);
-    let emptied = "JUMP _ _ _ 0; LEAS 1 _ _ _ _ 3; MOST 1 _ _ _ _ 2; DIVF 1 1 _ _ 1 4;";
-    passes(&format!("{emptied} LEAS 1 _ _ _ _ 1; MOST 1 _ _ _ _ 1; STOP"), 3);
-    claim_fails(&format!("{emptied} LEAS 1 _ _ _ _ 2; STOP"), 4, 5);
+fn nothing_is_owed_of_an_empty_dividend_or_divisor() {
+    for d in [0, 1, 2] {
+        let divided = |of: [u32; 2], by: [u32; 2]| {
+            let least = format!("LEAS 1 _ _ _ _ {}; LEAS 2 _ _ _ _ {};", of[0], by[0]);
+            let most = format!("MOST 1 _ _ _ _ {}; MOST 2 _ _ _ _ {};", of[1], by[1]);
+            format!("JUMP _ _ _ 0; {least} {most} DIVF {d} 1 _ _ 0 2; LEAS {d} _ _ _ _ 7; STOP")
+        };
+        claim_fails(&divided([2, 3], [4, 4]), 6, 7);
+        passes(&divided([3, 2], [4, 4]), 3);
+        claim_fails(&divided([6, 6], [3, 4]), 6, 7);
+        passes(&divided([6, 6], [4, 3]), 3);
+        passes(&divided([6, 6], [1, 0]), 3);
+    }
 }
 
 #[test]

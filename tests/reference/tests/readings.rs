@@ -120,24 +120,22 @@ fn reading_10_words_are_four_bytes() {
 }
 
 #[test]
-fn reading_11_an_empty_range_that_is_overwritten() {
+fn reading_11_an_edge_with_an_empty_range() {
+    // the claim names another variable than the empty range
+    passes("LEAS 0 _ _ _ _ 5; BLTU _ 0 _ 2 1 5; STOP; LEAS 9 _ _ _ _ 9; STOP", 3);
+    claim_fails("LEAS 0 _ _ _ _ 4; BLTU _ 0 _ 2 1 5; STOP; LEAS 9 _ _ _ _ 9; STOP", 2, 4);
+    passes("LEAS 16 _ _ _ _ 5; BLTU _ 16 _ 2 1 5; STOP; LEAS 9 _ _ _ _ 9; STOP", 3);
+    // of the point itself: also where the step overwrites it
     let empty = "JUMP _ _ _ 0; LEAS 0 _ _ _ _ 1; MOST 0 _ _ _ _ 0;";
-    claim_fails(&format!("{empty} SETC 0 _ _ _ _ 5; LEAS 0 _ _ _ _ 6; STOP"), 4, 5);
-    passes(&format!("{empty} SETC 1 _ _ _ _ 5; LEAS 1 _ _ _ _ 6; STOP"), 3);
-    passes(&format!("{empty} COPY 0 0; LEAS 1 _ _ _ _ 6; STOP"), 3);
+    passes(&format!("{empty} SETC 0 _ _ _ _ 5; LEAS 0 _ _ _ _ 6; STOP"), 3);
 }
 
 #[test]
 fn reading_12_ends_below_0_and_above_the_greatest() {
-    let crossed = "JUMP _ _ _ 0; LEAS 1 _ _ _ _ 5; LEAS 2 _ _ _ _ 4; MOST 1 _ _ _ _ 3; MOST 2 _ _ _ _ 5;";
-    passes(&format!("{crossed} SUBW 1 1 _ _ 0 2; LEAS 1 _ _ _ _ 1; STOP"), 3);
     passes("BLTU _ 0 _ 2 1 0; STOP; LEAS 5 _ _ _ _ 9; STOP", 3);
     passes("MOST 1 _ _ _ _ 0; BLTU _ 0 _ 2 0 1; STOP; LEAS 5 _ _ _ _ 9; STOP", 3);
     passes("LEAS 0 _ _ _ _ 4294967295; BEQU _ 0 _ 2 1 4294967295; LEAS 5 _ _ _ _ 9; STOP; STOP", 3);
     passes("MOST 0 _ _ _ _ 0; BEQU _ 0 _ 2 1 0; LEAS 5 _ _ _ _ 9; STOP; STOP", 3);
-    let inverted = "JUMP _ _ _ 0; LEAS 0 _ _ _ _ 4294967295; MOST 0 _ _ _ _ 2;";
-    passes(&format!("{inverted} ADDW 0 0 _ _ 1 4; LEAS 0 _ _ _ _ 5; STOP"), 3);
-    passes(&format!("{inverted} MULW 0 0 _ _ 0 0; LEAS 0 _ _ _ _ 5; STOP"), 3);
 }
 
 #[test]
@@ -196,7 +194,13 @@ fn reading_18_a_product_that_may_wrap() {
 
 #[test]
 fn reading_19_division_by_what_can_only_be_zero() {
-    passes("JUMP _ _ _ 0; LEAS 1 _ _ _ _ 1; MOST 1 _ _ _ _ 0; DIVF 1 2 _ _ 0 1; LEAS 5 _ _ _ _ 5; STOP", 3);
+    let divided = |lo: u32, hi: u32| {
+        format!("JUMP _ _ _ 0; LEAS 1 _ _ _ _ {lo}; MOST 1 _ _ _ _ {hi}; DIVF 1 2 _ _ 0 1; LEAS 5 _ _ _ _ 5; STOP")
+    };
+    fails(&divided(0, 0), 12, 4);
+    claim_fails(&divided(1, 1), 4, 5);
+    // the divisor is empty where it is at least 1 and at most 0
+    passes(&divided(1, 0), 3);
 }
 
 #[test]
@@ -251,11 +255,13 @@ fn reading_23_three_links_at_most() {
 }
 
 #[test]
-fn reading_24_divisors_and_accesses_at_empty_points() {
-    fails("JUMP _ _ _ 2; LEAS 0 _ _ _ _ 1; MOST 0 _ _ _ _ 0; DIVF 1 2 _ _ 0 3; STOP", 12, 4);
-    fails("JUMP _ _ _ 2; LEAS 0 _ _ _ _ 1; MOST 0 _ _ _ _ 0; LOAD 1 1 0 1 2 0; STOP", 13, 4);
-    passes("JUMP _ _ _ 2; LEAS 0 _ _ _ _ 9; LEAS 16 _ _ _ _ 1; MOST 0 _ _ _ _ 0; LOAD 1 1 0 1 0 0; STOP", 3);
-    passes("JUMP _ _ _ 2; LEAS 0 _ _ _ _ 9; MOST 0 _ _ _ _ 0; DIVF 1 2 _ _ 0 0; STOP", 3);
+fn reading_24_divisors_and_accesses_are_owed_by_ranges() {
+    // at points that nothing leads to, but for empty ones
+    for (line, number) in [("DIVF 1 2 _ _ 0 3", 12), ("LOAD 1 1 0 1 2 0", 13)] {
+        fails(&format!("JUMP _ _ _ 2; {line}; STOP"), number, 2);
+        fails(&format!("JUMP _ _ _ 2; LEAS 0 _ _ _ _ 1; MOST 0 _ _ _ _ 1; {line}; STOP"), number, 4);
+        passes(&format!("JUMP _ _ _ 2; LEAS 0 _ _ _ _ 1; MOST 0 _ _ _ _ 0; {line}; STOP"), 3);
+    }
     fails("STRP 2 1 3 _ _ 1; DIVF 0 1 _ _ 0 2; STOP", 12, 2);
     fails("DIVF 0 1 _ _ 1 0; STOP", 12, 1);
 }
@@ -293,4 +299,13 @@ fn reading_26_order_of_the_runners_refusals() {
     assert_eq!(outcome(at(0, 1), &[], &mut [], 0), (200, 0));
     assert_eq!(outcome(at(0, 1), &[], &mut [], 1), (100, 1));
     assert_eq!(outcome(at(1, 0), &[], &mut [], 0), (100, 0));
+}
+
+#[test]
+fn reading_32_a_point_is_empty_by_ranges_and_its_claims_are_owed() {
+    // x - x is never 1
+    fails("JUMP _ _ _ 2; STRP 0 1 0 _ _ 1; DIVF 1 2 _ _ 0 3; STOP", 12, 3);
+    fails("JUMP _ _ _ 2; MOST 0 _ _ _ _ 1; STRP 0 1 2 _ _ 2; DIVF 1 2 _ _ 0 3; STOP", 12, 4);
+    claim_fails("COPY 1 2; LEAS 0 _ _ _ _ 1; MOST 0 _ _ _ _ 0; STOP", 1, 2);
+    claim_fails("LEAS 0 _ _ _ _ 1; COPY 1 2; LEAS 0 _ _ _ _ 1; MOST 0 _ _ _ _ 0; STOP", 2, 4);
 }

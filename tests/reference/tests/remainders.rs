@@ -188,32 +188,28 @@ fn a_variable_divided_by_itself() {
 fn no_step_where_the_divisor_can_only_be_zero() {
     for pattern in patterns() {
         assert_eq!(along(pattern, [0, 0], [0, 0]), None, "{pattern:?}");
-        // its own range is empty, and is overwritten where q or r is o
-        assert_eq!(along(pattern, [1, 0], [1, 0]), None, "{pattern:?}");
     }
-    let behind = |line: &str| {
-        format!("JUMP _ _ _ 0; LEAS 1 _ _ _ _ 1; MOST 1 _ _ _ _ 0; {line}; LEAS 2 _ _ _ _ 9; LEAS 3 _ _ _ _ 9; STOP")
-    };
+    // 12 goes before the claims that would follow
     for line in ["DIVM 2 4 3 _ 0 1", "DIVM 1 4 3 _ 0 1", "DIVM 2 4 1 _ 0 1", "DIVM 1 1 2 _ 0 1", "DIVM 2 1 1 _ 0 1"] {
-        passes(&behind(line), 3);
+        fails(&format!("MOST 1 _ _ _ _ 0; {line}; LEAS 2 _ _ _ _ 9; STOP"), 12, 2);
     }
 }
 
+/// A dividend or a divisor in an empty range, which the step may overwrite, and claims that no result meets.
 #[test]
-fn an_empty_range_that_is_overwritten_may_be_in_order_again() {
-    for pattern @ [q, i, r, o] in patterns().filter(|[_, i, _, o]| i != o) {
-        let possible = |of, by| along(pattern, of, by).is_some();
-        let (i_written, o_written) = (i == q || i == r, o == q || o == r);
-        // the dividend's: 3 to 2 by 4 is 0 to 0, and 4 to 3 is 1 to 0
-        assert_eq!(possible([3, 2], [4, 4]), i_written, "{pattern:?}");
-        assert!(!possible([4, 3], [4, 4]), "{pattern:?}");
-        // the divisor's: 1 by 3 to 1 by 4 is 0 to 0, and 3 by 3 to 3 by 4 is 1 to 0
-        assert_eq!(possible([1, 1], [4, 3]), o_written, "{pattern:?}");
-        assert!(!possible([3, 3], [4, 3]), "{pattern:?}");
+fn nothing_is_owed_of_an_empty_dividend_or_divisor() {
+    for [q, i, r, o] in patterns().filter(|[_, i, _, o]| i < o) {
+        let divided = |of: [u32; 2], by: [u32; 2]| {
+            let least = format!("LEAS {i} _ _ _ _ {}; LEAS {o} _ _ _ _ {};", of[0], by[0]);
+            let most = format!("MOST {i} _ _ _ _ {}; MOST {o} _ _ _ _ {};", of[1], by[1]);
+            format!("JUMP _ _ _ 0; {least} {most} DIVM {q} {i} {r} _ 0 {o}; LEAS {q} _ _ _ _ 9; STOP")
+        };
+        claim_fails(&divided([2, 3], [4, 4]), 6, 7);
+        passes(&divided([3, 2], [4, 4]), 3);
+        claim_fails(&divided([1, 1], [3, 4]), 6, 7);
+        passes(&divided([1, 1], [4, 3]), 3);
+        passes(&divided([1, 1], [1, 0]), 3);
     }
-    let emptied = "JUMP _ _ _ 0; LEAS 1 _ _ _ _ 3; MOST 1 _ _ _ _ 2; DIVM 0 1 1 _ 1 4;";
-    passes(&format!("{emptied} MOST 0 _ _ _ _ 0; MOST 1 _ _ _ _ 2; STOP"), 3);
-    claim_fails(&format!("{emptied} MOST 0 _ _ _ _ 0; MOST 1 _ _ _ _ 1; STOP"), 4, 6);
 }
 
 /// Dividend 7 to 9 in register 1, divisor 2 to 4 in register 2, and a line that divides the one by the other.
@@ -321,7 +317,7 @@ fn a_divisor_that_may_be_zero_is_12() {
     fails("DIVM 0 3 3 _ 0 3; STOP", 12, 1);
     fails("DIVM 0 1 2 _ 0 16; STOP", 12, 1);
     fails("MOST 3 _ _ _ _ 9; STRP 3 1 4 _ _ 1; DIVM 0 1 2 _ 0 3; STOP", 12, 3);
-    fails("JUMP _ _ _ 2; LEAS 0 _ _ _ _ 1; MOST 0 _ _ _ _ 0; DIVM 1 2 4 _ 0 3; STOP", 12, 4);
+    fails("JUMP _ _ _ 2; LEAS 0 _ _ _ _ 1; MOST 0 _ _ _ _ 1; DIVM 1 2 4 _ 0 3; STOP", 12, 4);
     passes("LEAS 3 _ _ _ _ 1; DIVM 0 1 2 _ 0 3; STOP", 2);
     passes("LEAS 16 _ _ _ _ 1; DIVM 0 1 2 _ 0 16; STOP", 2);
     passes("DIVM 0 1 2 _ 1 1; STOP", 2);

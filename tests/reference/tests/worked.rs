@@ -132,7 +132,8 @@ fn c9_an_address_beyond_32_bits() {
 #[test]
 fn c10_a_division_that_is_never_reached() {
     let listing = listing("JUMP _ _ _ 2; LEAS 0 _ _ _ _ 1; MOST 0 _ _ _ _ 0; DIVF 1 2 _ _ 0 3; STOP");
-    assert_eq!(check(&listing), fail(12, 4));
+    assert_eq!(check(&listing), pass(3));
+    assert_eq!(printed(&check(&listing)).as_slice(), format!("PASS{}3\n", " ".repeat(34)).as_bytes());
 }
 
 #[test]

@@ -39,6 +39,7 @@ fn ways_back_are_covered_and_not() {
         "several ways back",
         "that nothing reaches",
         "random blocks",
+        "at empty points",
     ] {
         let numbers: Vec<u64> = bounds_of(part).map(|(_, bound)| bound.number).collect();
         for (number, least) in [(0, 300), (WAY_BACK_NOT_COVERED, 1_000)] {

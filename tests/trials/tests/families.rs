@@ -1,10 +1,17 @@
 //! The families hold what they promise: enough listings, every answer often enough, routines that pass, quotients at
-//! and beside a half, remainders in every way that their variables can meet.
+//! and beside a half, remainders in every way that their variables can meet, points empty and nearly so by every
+//! variable.
 
-use reference::{meets, read, step, Arithmetic, Instruction, Operand, State, Step};
+use lines::LINE;
+use reference::refusals::EMPTY_START;
+use reference::{
+    meets, read, read_line, step, Arithmetic, Claim, Instruction, Known, Line, Operand, Range, State, Step, Whole,
+    VARIABLES,
+};
 use std::cmp::Ordering;
 use std::collections::BTreeMap;
 use trials::runs::{all_runs, Call};
+use trials::shrink::is_claim;
 use trials::{all, of_reference, Family, Tally};
 
 /// Debug builds look at a share of the batches, so that a plain `cargo test` stays quick.
@@ -29,8 +36,13 @@ fn every_answer_comes_up_often_enough() {
     assert_eq!(whole.rare(), Vec::<&str>::new());
 }
 
-const ROUTINES: [&str; 3] =
-    ["routines that pass, with loops and stripes", "routines that divide with remainder", "loops that count down"];
+const ROUTINES: [&str; 5] = [
+    "routines that pass, with loops and stripes",
+    "routines that divide with remainder",
+    "loops that count down",
+    "dead stretches that are led around",
+    "routines with dead stretches",
+];
 
 #[test]
 fn routines_pass() {
@@ -190,4 +202,88 @@ fn runs_leave_nothing_a_little_and_nearly_all() {
         println!("{times} of {} divisions: {name}", made.len());
         assert!(times * SHARE >= 800, "{name}: {times}");
     }
+}
+
+/// Every listing of a family, none left out, since some of what is looked for is rare.
+fn all_listings_of(name: &str) -> impl Iterator<Item = Vec<u8>> {
+    let family = all().into_iter().find(|family| family.name == name).expect("the family exists");
+    (0..family.batches).flat_map(move |batch| family.batch(batch))
+}
+
+const ONE_POINT: &str = "one point, empty or nearly so";
+const LED_TO: &str = "what leads to an empty point";
+const POINT_0: &str = "point 0 empty or nearly so";
+
+/// The answers that a family aims at.
+type Aim = (&'static str, &'static [u64]);
+
+/// Each answer at least once in a hundred listings.
+#[test]
+fn empty_points_give_the_answers_that_they_aim_at() {
+    let aims: [Aim; 8] = [
+        (ONE_POINT, &[0, 12, 13, 14]),
+        ("an empty range that the step overwrites", &[0, 12, 14]),
+        (LED_TO, &[0, 14]),
+        ("a few random points, some empty", &[0, 12, 13, 14]),
+        (POINT_0, &[0, 11, 12, 13, 14]),
+        ("dead stretches with a flaw", &[0, 12, 13, 14]),
+        ("dead stretches, damaged", &[0, 1, 2, 3, 4, 5, 6, 7, 9, 10, 11, 19]),
+        ("dead stretches of 512 and 513 points", &[0, 8, 12, 13, 14]),
+    ];
+    for (name, aim) in aims {
+        let numbers: Vec<u64> = all_listings_of(name).map(|listing| reference::check(&listing).number).collect();
+        for number in aim {
+            let times = numbers.iter().filter(|&other| other == number).count();
+            assert!(times * 100 >= numbers.len(), "{name}: {times} times {number}");
+        }
+    }
+}
+
+/// What a point may leave of a variable, by its range and its greatest value unclaimed.
+type Left = fn(&Range, Whole) -> bool;
+
+/// No value, by one and by more; one value, the greatest alone, and 0 alone.
+const LEFT: [Left; 5] = [
+    |range, _| range.lo == range.hi + 1,
+    |range, _| range.lo > range.hi + 1,
+    |range, _| range.lo == range.hi,
+    |range, greatest| range.lo == greatest && range.hi == greatest,
+    |range, _| range.hi == 0 && range.lo == 0,
+];
+
+#[test]
+fn points_are_empty_and_nearly_so_by_every_variable() {
+    let unclaimed = Known::nothing().ranges;
+    for name in [ONE_POINT, LED_TO] {
+        let mut counts = [[0; LEFT.len()]; VARIABLES];
+        for point in all_listings_of(name).filter_map(|listing| read(&listing).ok()).flat_map(|listing| listing.points)
+        {
+            let ranges = Known::at(&point).ranges;
+            for (v, range) in ranges.iter().enumerate() {
+                let left = LEFT.map(|left| u64::from(left(range, unclaimed[v].hi)));
+                counts[v].iter_mut().zip(left).for_each(|(count, more)| *count += more);
+            }
+        }
+        println!("{name}: {counts:?}");
+        assert!(counts.iter().flatten().all(|&times| times >= 30), "{name}: {counts:?}");
+    }
+}
+
+/// The listing is turned back by 11, so that its points are not read: its first lines are.
+#[test]
+fn point_0_is_empty_by_every_variable() {
+    let mut counts = [0; VARIABLES];
+    for listing in all_listings_of(POINT_0).filter(|listing| reference::check(listing).number == EMPTY_START) {
+        let mut ranges = Known::nothing().ranges;
+        for line in listing.chunks(LINE).take_while(|line| is_claim(line)) {
+            match read_line(line) {
+                Ok(Line::Claim(Claim::Least { v, value })) => ranges[v].lo = value,
+                Ok(Line::Claim(Claim::Most { v, value })) => ranges[v].hi = value,
+                _ => {}
+            }
+        }
+        ranges.iter().zip(&mut counts).for_each(|(range, count)| *count += u64::from(range.is_empty()));
+    }
+    println!("{counts:?}");
+    assert!(counts.iter().all(|&times| times >= 40), "{counts:?}");
 }

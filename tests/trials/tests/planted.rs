@@ -178,9 +178,3 @@ fn a_low_end_by_the_least_divisor_is_found() {
     };
     assert_eq!(quotient_found(RANGES, &low), (14, 0));
 }
-
-#[test]
-fn a_step_by_what_can_only_be_zero_is_found() {
-    let by_one = |of: Range, by: Range| ends_by(nearest)(of, Range { hi: by.hi.max(1), ..by });
-    assert_eq!(quotient_found(RANGES, &by_one), (0, 14));
-}

@@ -131,6 +131,7 @@ const BRANCHES: &str = "branches that go back";
 const SEVERAL: &str = "several ways back";
 const NOT_REACHED: &str = "that nothing reaches";
 const BLOCKS: &str = "random blocks";
+const EMPTY: &str = "at empty points";
 const ANY_LINE: &str = "TURN on any line";
 const FIELDS: &str = "fields of TURN";
 
@@ -222,6 +223,37 @@ fn ways_back_that_are_left_out_are_found() {
     let reached =
         |listing: &Listing, at: usize| (RIGHT.goes_back)(listing, at) && reached_points(listing).contains(&at);
     assert_eq!(rule_found(NOT_REACHED, Rule { goes_back: reached, ..RIGHT }), ADMITTED);
+}
+
+/// Whatever their claims, ways back, jumps and writers count at empty points as they do at others.
+#[test]
+fn empty_points_that_are_left_out_are_found() {
+    let goes_back = |listing: &Listing, at: usize| !listing.points[at].is_empty() && (RIGHT.goes_back)(listing, at);
+    assert_eq!(rule_found(EMPTY, Rule { goes_back, ..RIGHT }), ADMITTED);
+    let is_target = |listing: &Listing, at: usize| {
+        let mut from = (0..listing.points.len()).filter(|&from| !listing.points[from].is_empty());
+        from.any(|from| target(listing, from) == Some(at))
+    };
+    // a jump from an empty point to a way back is mostly a way back too
+    assert_eq!(rule_found(EMPTY, Rule { is_target, ..RIGHT }).0, WAY_BACK_NOT_COVERED);
+    let writes = |point: &Point, turn: usize| !point.is_empty() && (RIGHT.writes)(point, turn);
+    assert_eq!(rule_found(EMPTY, Rule { writes, ..RIGHT }), ADMITTED);
+    let fit = |point: &Point, turn: usize| (RIGHT.fit)(point, turn) || point.is_empty() && takes(point, turn).is_some();
+    assert_eq!(rule_found(EMPTY, Rule { fit, ..RIGHT }), ADMITTED);
+}
+
+/// A way back from an empty point that counts is covered as any other.
+#[test]
+fn ways_back_from_empty_points_that_are_refused_are_found() {
+    let counted = |listing: &Listing, at: usize, turn: usize| {
+        (RIGHT.counted)(listing, at, turn) && !listing.points[at].is_empty()
+    };
+    assert_eq!(rule_found(EMPTY, Rule { counted, ..RIGHT }), REFUSED);
+    // beside a loop that is refused for it
+    let fit = |point: &Point, turn: usize| (RIGHT.fit)(point, turn) && !point.is_empty();
+    let rule = Rule { fit, ..RIGHT };
+    let difference = found(EMPTY, &|listing| bound_by(listing, &rule));
+    assert_eq!((difference.left.number, difference.right.number), REFUSED);
 }
 
 /// The points that the text leads to.

@@ -5,6 +5,7 @@ mod mended;
 use lines::LINE;
 use mended::mended;
 use reference::refusals::ONE_REGISTER_TWICE;
+use reference::{read, Listing};
 use trials::claim_lines::{compare_parts, listings, part_of_reference, Part, PartDifference};
 use trials::shrink::is_claim;
 
@@ -41,6 +42,27 @@ fn one_point_more(listing: &[u8], point: u64) -> Part {
         return Part { number: 0, place: 0, offset: 0, length: 0 };
     }
     part
+}
+
+/// A wrong reader that has an empty part for a point whose ranges are empty.
+fn nothing_at_empty_points(listing: &[u8], point: u64) -> Part {
+    let part = part_of_reference(listing, point);
+    let empty = |read: Listing| read.points.get(point as usize).is_some_and(|point| point.is_empty());
+    if part.number == 0 && read(listing).is_ok_and(empty) {
+        return Part { length: 0, ..part };
+    }
+    part
+}
+
+#[test]
+fn claim_lines_of_an_empty_point_left_out_are_found() {
+    for part in ["one point, empty or nearly so", "what leads to an empty point", "dead stretches that are led around"]
+    {
+        let difference = found(part, &nothing_at_empty_points);
+        assert_eq!((difference.left.length, difference.right.length), (2 * LINE as u64, 0));
+        // a line for each point before it, its two claims, and STOP
+        assert_eq!(difference.listing.len(), (difference.point as usize + 3) * LINE);
+    }
 }
 
 /// A wrong reader to which one register for quotient and remainder is nothing.

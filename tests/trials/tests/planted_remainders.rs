@@ -35,8 +35,6 @@ struct Rule {
     remainder_first: bool,
     /// Whether those of the dividend and of the divisor are looked up again before the second is made.
     again: [bool; 2],
-    /// Whether a divisor that can only be 0 counts as 1.
-    by_zero: bool,
 }
 
 const RIGHT: Rule = Rule {
@@ -45,7 +43,6 @@ const RIGHT: Rule = Rule {
     drops: [true, true],
     remainder_first: false,
     again: [false, false],
-    by_zero: false,
 };
 
 fn with_remainders(listing: &[u8], rule: &Rule) -> Answer {
@@ -57,7 +54,7 @@ fn with_remainders(listing: &[u8], rule: &Rule) -> Answer {
 
 fn divided(rule: &Rule, before: &Known, [q, i, r]: [usize; 3], o: Operand) -> Option<Known> {
     let (of, by) = (before.ranges[i], range_of(before, o));
-    if by.hi == 0 && !rule.by_zero {
+    if by.hi == 0 {
         return None;
     }
     let at_least_one = |by: Range| Range { hi: by.hi.max(1), ..by };
@@ -84,8 +81,8 @@ fn numbers(difference: &Difference) -> (u64, u64) {
 #[track_caller]
 fn rule_found(part: &str, rule: Rule) -> (u64, u64) {
     let difference = found(part, &|listing| with_remainders(listing, &rule));
-    // a range each for dividend and divisor behind a jump, a division, a claim and STOP
-    assert!(difference.listing.len() <= 8 * LINE, "{difference}");
+    // a range each for dividend and divisor, a division, a claim and STOP
+    assert!(difference.listing.len() <= 7 * LINE, "{difference}");
     numbers(&difference)
 }
 
@@ -170,11 +167,6 @@ fn stripes_dropped_for_one_register_alone_are_found() {
     for drops in [[true, false], [false, true]] {
         assert_eq!(rule_found(STRIPES, Rule { drops, ..RIGHT }), (14, 0));
     }
-}
-
-#[test]
-fn a_step_by_what_can_only_be_zero_is_found() {
-    assert_eq!(rule_found(RANGES, Rule { by_zero: true, ..RIGHT }), (0, 14));
 }
 
 #[test]

@@ -3,9 +3,10 @@
 mod mended;
 
 use mended::mended;
-use reference::refusals::{ONE_REGISTER_TWICE, UNKNOWN_WORD};
+use reference::refusals::{CLAIMS_NOT_MET, DIVISOR_MAY_BE_ZERO, ONE_REGISTER_TWICE, UNKNOWN_WORD};
 use reference::{
-    check, read, step, step_bound, Arithmetic, Instruction, Operand, Outcome, Refusal, Run, State, Step, MAX,
+    check, read, step, step_bound, Arithmetic, Instruction, Known, Operand, Outcome, Point, Range, Refusal, Run, State,
+    Step, MAX,
 };
 use trials::runs::{all_runs, compare_runs, After, Call, RunDifference};
 
@@ -353,6 +354,61 @@ fn a_refusal_without_its_line_is_found() {
 fn a_listing_under_a_turn_line_refused_is_found() {
     let difference = found("loops that count down, from any point", &knows_no_turn);
     assert_eq!(lines_of(&difference), 1);
+}
+
+/// The reference's run, but that a state at an empty point for which this holds is admitted and stays where it is.
+fn admits_at_empty(call: &Call, admits: fn(&Point, &State) -> bool) -> After {
+    let mut after = call.by_reference();
+    let Outcome::Refused(Refusal { number: CLAIMS_NOT_MET, .. }) = after.run.outcome else { return after };
+    let listing = read(&call.listing).expect("17 comes after reading");
+    let point = &listing.points[call.state.point as usize];
+    if point.is_empty() && admits(point, &call.state) {
+        let stops = point.instruction == Instruction::Stop;
+        after.run.outcome = if stops { Outcome::Stopped } else { Outcome::Paused };
+    }
+    after
+}
+
+/// Every register lies above its least value, whatever the greatest is, or the other way round.
+fn one_end_is_met(point: &Point, state: &State, met: fn(i128, &Range) -> bool) -> bool {
+    let ranges = Known::at(point).ranges;
+    state.registers.iter().zip(&ranges).all(|(&value, range)| met(i128::from(value), range))
+}
+
+#[test]
+fn a_state_admitted_at_an_empty_point_is_found() {
+    let any: fn(&Point, &State) -> bool = |_, _| true;
+    let by_least: fn(&Point, &State) -> bool =
+        |point, state| one_end_is_met(point, state, |value, range| value >= range.lo);
+    let by_most: fn(&Point, &State) -> bool =
+        |point, state| one_end_is_met(point, state, |value, range| value <= range.hi);
+    let by_registers: fn(&Point, &State) -> bool =
+        |point, state| one_end_is_met(point, state, |value, range| range.holds(value));
+    for admits in [any, by_least, by_most, by_registers] {
+        let difference = found("a state at an empty point", &|call| admits_at_empty(call, admits));
+        assert!(lines_of(&difference) <= 4, "{difference}");
+    }
+}
+
+/// A runner that turns back every listing with an empty point.
+#[test]
+fn a_listing_with_an_empty_point_refused_is_found() {
+    let refuses = |call: &Call| {
+        let mut after = call.by_reference();
+        let Ok(listing) = read(&call.listing) else { return after };
+        if let (Some(point), false) =
+            (listing.points.iter().find(|point| point.is_empty()), matches!(after.run.outcome, Outcome::Refused(_)))
+        {
+            let refusal = Refusal { number: DIVISOR_MAY_BE_ZERO, place: point.line, second: 0 };
+            after.run = Run { outcome: Outcome::Refused(refusal), state: call.state, steps: 0 };
+            after.results.clone_from(&call.results);
+        }
+        after
+    };
+    for part in ["routines with dead stretches", "nearly empty", "hostile claims"] {
+        let difference = found(part, &refuses);
+        assert!(lines_of(&difference) <= 4, "{difference}");
+    }
 }
 
 /// With the bound as budget, some runs end in its last round.

@@ -1,9 +1,10 @@
 //! Listings that pass keep their word: from a state that its point admits, no step is the error
-//! state and every state reached meets the claims of its point.
+//! state, every state reached meets the claims of its point, and none stands at an empty point.
 
 use reference::{check, meets, read, run, step, Known, Listing, Outcome, State, Step, RESULTS_SIZE, TRAYS_SIZE};
 use trials::all;
 use trials::random::Random;
+use trials::runs::{all_runs, Call};
 
 const SHARE: u64 = if cfg!(debug_assertions) { 50 } else { 2 };
 const TRIES: usize = 12;
@@ -74,6 +75,59 @@ fn passed_listings_keep_their_claims() {
     }
     println!("{starts} starts, {steps} steps");
     assert!(starts as u64 * SHARE > 30_000, "{starts} starts");
+}
+
+/// The states of accepted runs of listings with empty points, and how many of these runs there were.
+#[derive(Default)]
+struct LookedAt {
+    runs: u64,
+    states: u64,
+}
+
+/// A list of runs of one step each, over tables whose bytes are other ones in every run.
+fn never_at_an_empty_point(random: &mut Random, mut call: Call, looked_at: &mut LookedAt) {
+    if check(&call.listing).number != 0 {
+        return;
+    }
+    let listing = read(&call.listing).expect("it passes");
+    if !listing.points.iter().any(|point| point.is_empty()) {
+        return;
+    }
+    for _ in 0..STEPS {
+        let run = run(&call.listing, call.state, &call.trays, &mut call.results, 1);
+        if matches!(run.outcome, Outcome::Refused(_)) {
+            return;
+        }
+        for state in [call.state, run.state] {
+            assert!(!listing.points[state.point as usize].is_empty(), "{call} {state:?}");
+        }
+        (looked_at.runs, looked_at.states) = (looked_at.runs + 1, looked_at.states + 2);
+        if run.outcome == Outcome::Stopped {
+            return;
+        }
+        call.state = run.state;
+        let byte = random.draw() as u8;
+        [&mut call.trays, &mut call.results].into_iter().for_each(|table| table.fill(byte));
+    }
+}
+
+/// Also where the first state is any at all.
+#[test]
+fn no_run_comes_to_an_empty_point() {
+    let mut random = Random::new(79);
+    let mut looked_at = LookedAt::default();
+    let parts = ["dead stretches", "empty", "hostile claims"];
+    let families = all_runs().into_iter().filter(|family| parts.iter().any(|part| family.name.contains(part)));
+    for family in families.map(|family| family.thinned(SHARE)) {
+        for batch in 0..family.batches {
+            for trial in family.batch(&mut family.random(batch)) {
+                never_at_an_empty_point(&mut random, trial.call, &mut looked_at);
+            }
+        }
+    }
+    let LookedAt { runs, states } = looked_at;
+    println!("{states} states of {runs} runs");
+    assert!(runs * SHARE > 50_000, "{runs} runs");
 }
 
 /// A run in pieces is the run at once, and both are the steps of the machine.

@@ -196,9 +196,7 @@ impl Facts {
         if most > MAX {
             return self.write_any(d);
         }
-        // from an empty range the least product may be beyond any greatest one
-        let least = (lo as u64 * lo_o as u64).min(MAX + 1);
-        self.write(d, least as i64, most as i64);
+        self.write(d, lo * lo_o, most as i64);
         if let Operand::Number(scale @ 1..=255) = o {
             if d != i {
                 self.add_stripe(Stripe { x: d, a: scale as u8, y: i, z: BLANK, b: 0 });
@@ -206,15 +204,11 @@ impl Facts {
         }
     }
 
-    /// False where no step is possible.
-    pub fn divide(&mut self, d: u8, i: u8, o: Operand) -> bool {
+    /// The divisor is at least 1.
+    pub fn divide(&mut self, d: u8, i: u8, o: Operand) {
         let ((lo, hi), (lo_o, hi_o)) = (self.ends(Operand::Variable(i)), self.ends(o));
-        if hi_o == 0 {
-            return false;
-        }
-        let (least, most) = (nearest(lo as u64, hi_o as u64), nearest(hi as u64, lo_o.max(1) as u64));
+        let (least, most) = (nearest(lo as u64, hi_o as u64), nearest(hi as u64, lo_o as u64));
         self.write(d, least as i64, most as i64);
-        true
     }
 
     pub fn less(&mut self, i: u8, o: Operand) {
@@ -257,15 +251,11 @@ impl Facts {
         self.set(i, lo + i64::from(lo == lo_o), hi - i64::from(hi == lo_o));
     }
 
-    /// False where no step is possible. All ends are taken first, as q or r may be i or o.
-    pub fn div_mod(&mut self, q: u8, i: u8, r: u8, o: Operand) -> bool {
+    /// The divisor is at least 1. All ends are taken first, as q or r may be i or o.
+    pub fn div_mod(&mut self, q: u8, i: u8, r: u8, o: Operand) {
         let ((lo, hi), (lo_o, hi_o)) = (self.ends(Operand::Variable(i)), self.ends(o));
-        if hi_o == 0 {
-            return false;
-        }
-        self.set(q, lo / hi_o, hi / lo_o.max(1));
+        self.set(q, lo / hi_o, hi / lo_o);
         self.set(r, 0, hi.min(hi_o - 1));
         self.retain(|stripe| !stripe.names(q) && !stripe.names(r));
-        true
     }
 }

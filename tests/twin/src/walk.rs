@@ -18,6 +18,10 @@ impl Listing<'_> {
             return Ok(());
         }
         let mut facts = Facts::at(self.claims(point));
+        // an empty point owes nothing
+        if facts.impossible() {
+            return Ok(());
+        }
         match point.instruction {
             Instruction::Jump { target } => self.edge(at, target as usize, &facts),
             Instruction::Less { i, target, o } => {
@@ -41,7 +45,6 @@ impl Listing<'_> {
     /// An instruction whose one successor is the next point.
     fn straight(&self, at: usize, facts: &mut Facts) -> Result<(), Answer> {
         let refused = |number| Err(Answer::refused(number, self.points[at].line as usize + 1));
-        let mut possible = true;
         match self.points[at].instruction {
             Instruction::Set { d, number } => facts.write(d, i64::from(number), i64::from(number)),
             Instruction::Copy { d, i } => facts.copy(d, i),
@@ -51,7 +54,7 @@ impl Listing<'_> {
             Instruction::Divide { o, .. } | Instruction::DivMod { o, .. } if !divisor_is_safe(facts, o) => {
                 return refused(DIVISOR_MAY_BE_ZERO);
             }
-            Instruction::Divide { d, i, o } => possible = facts.divide(d, i, o),
+            Instruction::Divide { d, i, o } => facts.divide(d, i, o),
             Instruction::Load { d, width, size, scale, i, offset } => {
                 let end = i64::from(offset) + i64::from(width);
                 if !access_is_safe(facts, size, scale, i, end) {
@@ -65,11 +68,8 @@ impl Listing<'_> {
                     return refused(ACCESS_MAY_LEAVE);
                 }
             }
-            Instruction::DivMod { q, i, r, o } => possible = facts.div_mod(q, i, r, o),
+            Instruction::DivMod { q, i, r, o } => facts.div_mod(q, i, r, o),
             _ => {}
-        }
-        if !possible {
-            return Ok(());
         }
         self.edge(at, at + 1, facts)
     }

@@ -3,6 +3,8 @@
 
 mod columns;
 pub(crate) mod damage;
+pub(crate) mod dead_stretches;
+pub(crate) mod empty_points;
 pub(crate) mod limits;
 pub(crate) mod nudges;
 pub(crate) mod pieces;
@@ -56,6 +58,11 @@ pub fn all() -> Vec<Family> {
     without_turn().into_iter().chain(under_turn()).collect()
 }
 
+/// Families without TURN lines.
+pub(crate) fn without_turn() -> Vec<Family> {
+    of_points().into_iter().chain(of_empty_points()).collect()
+}
+
 /// Families with TURN lines.
 fn under_turn() -> Vec<Family> {
     vec![
@@ -67,6 +74,7 @@ fn under_turn() -> Vec<Family> {
         Family::new("loops that count down, damaged", 46, 250, turn_lines::damaged),
         Family::new("loops that count down, with numbers nudged", 47, 1_000, turn_lines::nudged),
         Family::new("loops of 512 and 513 points", 48, 40, turn_lines::many_points),
+        Family::new("loops that count down, with dead stretches", 50, 1_500, dead_stretches::in_loops),
         Family::new(
             "a TURN line, and one register for quotient and remainder",
             49,
@@ -76,7 +84,8 @@ fn under_turn() -> Vec<Family> {
     ]
 }
 
-pub(crate) fn without_turn() -> Vec<Family> {
+/// Families for reading, for what a step does to claims, and for what is owed.
+fn of_points() -> Vec<Family> {
     vec![
         Family::new("routines that pass, with loops and stripes", 1, 14_000, routines::passing),
         Family::new("routines with one field nudged", 2, 8_000, nudges::nudged),
@@ -86,14 +95,13 @@ pub(crate) fn without_turn() -> Vec<Family> {
         Family::new("accesses at and beside the end of a table", 6, 14_000, probes::access),
         Family::new("a few random points over few variables", 7, 24_000, probes::jumble),
         Family::new("stripe bounds shifted at their limits", 8, 6_000, probes::shifted),
-        Family::new("an empty range that the step overwrites", 15, 8_000, probes::emptied),
         Family::new("quotients of one value by one value", 17, 10_000, quotients::of_values),
         Family::new("quotients of ranges, claims at and beside their ends", 18, 16_000, quotients::of_ranges),
         Family::new("damaged text", 9, 6_000, damage::damaged),
         Family::new("two damages at once", 10, 2_000, damage::damaged_twice),
         Family::new("fields at and beside their limits", 11, 8_000, limits::fields),
         Family::new("eight and nine stripes, order of claims", 12, 2_000, limits::claim_order),
-        Family::new("512 and 513 points", 13, 900, limits::many_points),
+        Family::new("512 and 513 points", 13, 1_000, limits::many_points),
         Family::new("65,520 and 65,560 bytes", 14, 60, limits::many_bytes),
         Family::new("remainders of one value by one value", 31, 14_000, remainders::of_values),
         Family::new("remainders of ranges, claims at and beside their ends", 32, 24_000, remainders::of_ranges),
@@ -103,5 +111,22 @@ pub(crate) fn without_turn() -> Vec<Family> {
         Family::new("routines that divide with remainder, one field nudged", 36, 500, nudges::dealing_nudged),
         Family::new("one register for quotient and remainder", 37, 6_000, damage::one_register_twice),
         Family::new("fields of DIVM at and beside their limits", 38, 3_000, limits::fields_of_div_mod),
+    ]
+}
+
+/// Families with points whose ranges are empty for some variable.
+fn of_empty_points() -> Vec<Family> {
+    vec![
+        Family::new("one point, empty or nearly so", 51, 12_000, empty_points::one_point),
+        Family::new("an empty range that the step overwrites", 15, 4_000, empty_points::overwritten),
+        Family::new("what leads to an empty point", 52, 12_000, empty_points::led_to),
+        Family::new("a few random points, some empty", 53, 5_000, empty_points::among_points),
+        Family::new("point 0 empty or nearly so", 54, 2_500, empty_points::at_point_0),
+        Family::new("dead stretches that are led around", 55, 5_000, dead_stretches::skipped),
+        Family::new("dead stretches with a flaw", 56, 4_000, dead_stretches::flawed),
+        Family::new("routines with dead stretches", 57, 3_000, dead_stretches::in_routines),
+        Family::new("routines with dead stretches, one field nudged", 58, 400, dead_stretches::nudged),
+        Family::new("dead stretches, damaged", 59, 250, dead_stretches::damaged),
+        Family::new("dead stretches of 512 and 513 points", 60, 200, dead_stretches::many_points),
     ]
 }

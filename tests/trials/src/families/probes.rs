@@ -5,8 +5,7 @@ use super::pieces;
 use crate::draft::{Draft, DraftPoint};
 use crate::random::Random;
 use reference::{
-    edges, Arithmetic, Claim, Edge, Instruction, Known, Operand, Stripe, Whole, BOUND_LIMIT, MAX, RESULTS_SIZE,
-    TRAYS_SIZE,
+    edges, Arithmetic, Claim, Edge, Instruction, Known, Operand, Stripe, Whole, BOUND_LIMIT, RESULTS_SIZE, TRAYS_SIZE,
 };
 
 /// Random claims, a random instruction, and after it claims at, below and above what follows.
@@ -70,29 +69,6 @@ fn tempting(instruction: &Instruction) -> Vec<Stripe> {
     }
 }
 
-/// A point with one empty range, and arithmetic that reads and overwrites that very variable: the edge is possible
-/// where the new ends are in order again.
-pub fn emptied(random: &mut Random) -> Vec<Vec<u8>> {
-    let (d, other) = (random.below(8), 8 + random.below(10));
-    let hi = random.pick(&[0, 1, 2, 3, 5, 65_535]);
-    let lo = random.pick(&[hi + 1, hi + 1, hi + 2, 65_536, 65_537, 1 << 31, MAX - 1, MAX]);
-    let (low, high) = (random.between(0, 5), random.between(0, 5));
-    let operand = random.pick(&[Operand::Variable(d), Operand::Variable(other), Operand::Number(low)]);
-    let (i, o) = (random.pick(&[d, d, other]), operand);
-    let kinds = [Arithmetic::Add, Arithmetic::Subtract, Arithmetic::Multiply, Arithmetic::Divide];
-    let mut draft = Draft::default();
-    draft.push(Instruction::Jump { target: 0 });
-    let point = draft.push(Instruction::Compute { kind: random.pick(&kinds), d, i, o });
-    point.claim(Claim::Least { v: d, value: lo });
-    point.claim(Claim::Most { v: d, value: hi });
-    point.claim(Claim::Least { v: other, value: low });
-    point.claim(Claim::Most { v: other, value: low + high });
-    let edge = edges(1, &point.instruction, &point.known()).remove(0);
-    draft.push(Instruction::Stop);
-    claim_beside(random, &edge, &[d, d, other], &mut draft);
-    vec![draft.text()]
-}
-
 /// Sometimes claims what was known before the step, which the step may have made untrue.
 fn claim_again(random: &mut Random, before: &Known, pool: &[usize], point: &mut DraftPoint) {
     if random.percent(60) {
@@ -132,7 +108,7 @@ fn keep_eight_stripes_in_order(point: &mut DraftPoint) {
     claims.into_iter().for_each(|claim| point.claim(claim));
 }
 
-fn claim_beside(random: &mut Random, edge: &Edge, pool: &[usize], draft: &mut Draft) {
+pub(super) fn claim_beside(random: &mut Random, edge: &Edge, pool: &[usize], draft: &mut Draft) {
     let point = &mut draft.points[edge.to];
     let Some(known) = &edge.known else {
         for _ in 0..random.below(4) {

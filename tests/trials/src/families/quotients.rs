@@ -61,7 +61,7 @@ pub fn of_values(random: &mut Random) -> Vec<Vec<u8>> {
     vec![asked(random, &Division { d, i, o, of, by })]
 }
 
-/// Ranges of several values and of one, empty ones, and divisors that may be 0 or can only be 0.
+/// Ranges of several values and of one, and divisors that may be 0 or can only be 0.
 pub fn of_ranges(random: &mut Random) -> Vec<Vec<u8>> {
     let by = divisors(random);
     let same = random.percent(6);
@@ -88,11 +88,10 @@ pub(super) fn divisors(random: &mut Random) -> Range {
     match random.below(20) {
         0..=3 => Range::only(one),
         4..=8 => Range { lo: one, hi: (one + random.between(1, 2)).min(MAX) },
-        9..=12 => Range { lo: one.min(other), hi: one.max(other) },
-        13 | 14 => Range { lo: one, hi: MAX },
-        15 | 16 => Range { lo: 0, hi: one },
-        17 => Range { lo: random.pick(&[0, one]), hi: 0 },
-        _ => Range { lo: one, hi: (one - random.between(1, 2)).max(0) },
+        9..=14 => Range { lo: one.min(other), hi: one.max(other) },
+        15 | 16 => Range { lo: one, hi: MAX },
+        17 | 18 => Range { lo: 0, hi: one },
+        _ => Range::only(0),
     }
 }
 
@@ -102,14 +101,13 @@ fn dividends(random: &mut Random, by: Range) -> Range {
     with_ends(random, lo, hi)
 }
 
-/// From the one to the other, or with one of the two ends alone; some are empty.
+/// From the one to the other, or with one of the two ends alone.
 pub(super) fn with_ends(random: &mut Random, lo: Whole, hi: Whole) -> Range {
     match random.below(20) {
         0..=3 => Range::only(random.pick(&[lo, hi])),
         4..=8 => Range { lo, hi: (lo + 1).min(MAX) },
         9 => Range { lo: 0, hi },
         10 => Range { lo, hi: MAX },
-        11 | 12 => Range { lo, hi: (lo - 1).max(0) },
         _ => Range { lo: lo.min(hi), hi: lo.max(hi) },
     }
 }
@@ -123,20 +121,15 @@ fn asked(random: &mut Random, division: &Division) -> Vec<u8> {
     draft.text()
 }
 
-/// A division of i behind the claims of its ranges, and what is known along its edge. Behind a jump to itself, a point
-/// may have empty ranges.
+/// A division of i behind the claims of its ranges, and what is known along its edge.
 pub(super) fn divided(random: &mut Random, divide: Instruction, i: usize, of: Range, by: Range) -> (Draft, Edge) {
     let mut draft = Draft::default();
-    if of.is_empty() || by.is_empty() {
-        draft.push(Instruction::Jump { target: 0 });
-    }
-    let at = draft.points.len();
     let point = draft.push(divide);
     claim_range(random, point, i, of);
     if let Some(Operand::Variable(o)) = divide.divisor() {
         claim_range(random, point, o, by);
     }
-    let edge = edges(at, &point.instruction, &point.known()).remove(0);
+    let edge = edges(0, &point.instruction, &point.known()).remove(0);
     (draft, edge)
 }
 

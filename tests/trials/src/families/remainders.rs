@@ -67,7 +67,7 @@ pub fn of_values(random: &mut Random) -> Vec<Vec<u8>> {
     vec![asked(random, &division)]
 }
 
-/// Ranges of several values and of one, empty ones, and divisors that may be 0 or can only be 0.
+/// Ranges of several values and of one, and divisors that may be 0 or can only be 0.
 pub fn of_ranges(random: &mut Random) -> Vec<Vec<u8>> {
     let by = divisors(random);
     let division = division(random, by, dividends);

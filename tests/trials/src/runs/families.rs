@@ -4,9 +4,9 @@
 use super::call::Call;
 use super::resume::budget;
 use super::starts::{any, bytes, meeting, meeting_at, missing, Start};
-use super::{quotients, remainders, turns};
+use super::{dead_stretches, quotients, remainders, turns};
 use crate::draft::{Draft, DraftPoint};
-use crate::families::{damage, dealing, limits, nudges, pieces, probes, routine};
+use crate::families::{damage, dealing, empty_points, limits, nudges, pieces, probes, routine};
 use crate::random::Random;
 use lines::listing;
 use reference::{
@@ -65,6 +65,9 @@ pub fn all_runs() -> Vec<RunFamily> {
         family("loops that count down, from any point", 116, 2_000, turns::from_any_point),
         family("loops that count down, with their bound and a round less", 117, 4_000, turns::with_bound),
         family("listings under a TURN line, turned back", 118, 1_500, turns::turned_back),
+        family("routines with dead stretches, from any point", 119, 3_000, dead_stretches::from_any_point),
+        family("a state at an empty point", 120, 6_000, dead_stretches::at_empty_points),
+        family("points that are nearly empty, from any point", 121, 6_000, dead_stretches::nearly_empty),
     ]
 }
 
@@ -92,7 +95,7 @@ pub(super) fn from_several_points(random: &mut Random, text: &[u8]) -> Vec<Trial
     (0..3).filter_map(|_| from_any_point(random, text, &points, 4)).collect()
 }
 
-fn from_any_point(random: &mut Random, text: &[u8], points: &Listing, most: usize) -> Option<Trial> {
+pub(super) fn from_any_point(random: &mut Random, text: &[u8], points: &Listing, most: usize) -> Option<Trial> {
     let start = meeting(random, points)?;
     let runs = 1 + random.below(most);
     Some(trial(random, text, start, runs))
@@ -100,7 +103,8 @@ fn from_any_point(random: &mut Random, text: &[u8], points: &Listing, most: usiz
 
 /// A small listing whose claims ask one question at an edge.
 fn probe(random: &mut Random) -> Vec<u8> {
-    let makers = [probes::one_edge, probes::one_edge, probes::chain, probes::access, probes::jumble, probes::emptied];
+    let makers =
+        [probes::one_edge, probes::one_edge, probes::chain, probes::access, probes::jumble, empty_points::one_point];
     let make = random.pick(&makers);
     make(random).swap_remove(0)
 }

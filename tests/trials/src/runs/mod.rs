@@ -3,6 +3,7 @@
 
 mod call;
 mod comparison;
+mod dead_stretches;
 mod families;
 mod quotients;
 mod remainders;

@@ -116,6 +116,19 @@ pub fn meeting_at(random: &mut Random, listing: &Listing, point: usize) -> Optio
     Some(start(random, point, &values))
 }
 
+/// A state at a point that is empty, if there is one: variables without a value at one of their ends, the others within
+/// their ranges.
+pub fn at_empty(random: &mut Random, listing: &Listing) -> Option<Start> {
+    let empty: Vec<usize> = (0..listing.points.len()).filter(|&at| listing.points[at].is_empty()).collect();
+    let at = (!empty.is_empty()).then(|| random.pick(&empty))?;
+    let ranges = Known::at(&listing.points[at]).ranges;
+    let values = std::array::from_fn(|v| match ranges[v] {
+        Range { lo, hi } if lo > hi => random.pick(&[lo, hi]),
+        range => within(random, v, range),
+    });
+    Some(start(random, at, &values))
+}
+
 /// A state that would meet the claims of some point, but for one of them, by as little as may be.
 pub fn missing(random: &mut Random, listing: &Listing) -> Option<Start> {
     let claimed: Vec<usize> = (0..listing.points.len()).filter(|&at| !listing.points[at].claims.is_empty()).collect();

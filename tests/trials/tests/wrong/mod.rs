@@ -1,8 +1,6 @@
 //! Checkers that are the reference but for one rule.
 
-use reference::{
-    check, edges, goal_follows, read, Answer, Claim, Edge, Instruction, Known, Operand, Range, Stripe, LINKS,
-};
+use reference::{check, claim_follows, edges, read, Answer, Edge, Instruction, Known, Operand, Range, Stripe};
 
 /// The reference's answer, with PASS where the point that fails would pass by a weaker rule.
 pub fn weakened(listing: &[u8], number: u64, excused: &dyn Fn(usize, &Instruction, &Known, u64) -> bool) -> Answer {
@@ -29,25 +27,17 @@ pub fn with_rule(listing: &[u8], rule: Rule) -> Answer {
         return answer;
     }
     let points = read(listing).expect("12 to 14 come after reading").points;
-    for (at, point) in points.iter().enumerate() {
+    for (at, point) in points.iter().enumerate().filter(|(_, point)| !point.is_empty()) {
         let before = Known::at(point);
         for Edge { to, known } in edges(at, &point.instruction, &before) {
             let known = rule(&point.instruction, &before).unwrap_or(known);
             let Some(known) = known.filter(|known| !known.has_empty_range()) else { continue };
-            if let Some(claim) = points[to].claims.iter().find(|claim| !follows(&known, &claim.claim)) {
+            if let Some(claim) = points[to].claims.iter().find(|claim| !claim_follows(&known, &claim.claim)) {
                 return Answer { number: 14, place: point.line, second: claim.line, points: 0 };
             }
         }
     }
     Answer { number: 0, place: 0, second: 0, points: points.len() as u64 }
-}
-
-fn follows(known: &Known, claim: &Claim) -> bool {
-    match *claim {
-        Claim::Least { v, value } => known.ranges[v].lo >= value,
-        Claim::Most { v, value } => known.ranges[v].hi <= value,
-        Claim::Stripe(goal) => goal_follows(known, &goal, LINKS),
-    }
 }
 
 pub fn range_of(known: &Known, o: Operand) -> Range {
