@@ -1,9 +1,13 @@
--- Document 01, 'Worked listings': C1 to C10 with every variant stated there, as one table with one theorem, by computation.
+-- Document 01, 'Worked listings': C1 to C10 with every variant stated there, as one table with one theorem, by computation. C10 has the
+-- answer that document 02 gives it.
 -- Answers are stated in numbers: the points of a listing that passes, or a refusal's number, place and second place, 0 for none.
 -- The rows after C10 go beyond them: each number that C1 to C10 do not show, 2 to 11, 15 and 16, and 12 once more, most with a second fault
 -- that is tested later; three rows of the printer and the runner; the call for claim lines; the slips that document 01 names, each beside a
--- like listing that passes; and document 02's requests, T-01 to T-03 and T-05, with a row or more for each clause. C9 is the slip of the address. A third variable in a link and a
--- fourth link stand with the slips: no run goes wrong by them, so that soundness does not refuse them. 8 is shown on points that are read: 513 lines are too many to read by computation; so are the near misses of a covered edge, which takes less time.
+-- like listing that passes; and document 02's requests, T-01 to T-03, T-05 and T-06, with a row or more for each clause. C9 is the slip
+-- of the address. A third variable in a link and a fourth link stand with the slips: no run goes wrong by them, so that soundness does
+-- not refuse them. 8 is shown on points that are read: 513 lines are too many to read by computation; so are the near misses of a
+-- covered edge and of an empty point, which takes less time. What no answer shows, an edge whose divisor can only be 0, is asked of the
+-- edge itself.
 -- A listing is written a row a line: the word and the six fields, each as the text that stands at the right of its columns.
 use Prim.Native.Nat.{ℕ, zero, suc, _+_, _-_}
 use Prim.Native.String.{String}
