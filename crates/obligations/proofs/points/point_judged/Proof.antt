@@ -4,15 +4,13 @@ use mathlib.Core.Bool.{not}
 use Rattle.model.specs.Facts.{Facts, nonEmpty}
 use Rattle.model.proofs.OwedPoints.{owes-nothing, owes}
 use Rattle.obligations.proofs.AccessNumbers.{none-stand}
+use borrow.Author.Needs.{needs}
 use borrow.Author.Tests.{not-true, not-false}
 use Rattle.obligations.proofs.points.point_judged.Statement.{statement}
 use Rattle.obligations.proofs.points.point_judged.Tie as tie
 
 facts-at-requires : tie.Need-facts-at-requires
 facts-at-requires c κs = let h = c .before .before .before .before .before .pre in (h .0 .0 .all .each _ (h .0 .1), h .1 .0)
-
-is-possible-requires : tie.Need-is-possible-requires
-is-possible-requires c κs = let e = c .before .before .facts-at .ensures .1 .ends in (e .lows .long, e .highs .long)
 
 returns : tie.Need-returns
 returns c =
@@ -35,4 +33,4 @@ returns-2 c =
 
 pub point-judged-spec : {M : Type 1} → statement M
 point-judged-spec =
-    tie.close (tie.spec facts-at-requires is-possible-requires returns owed-judged-requires returns-2)
+    tie.close (tie.spec facts-at-requires (λ c κs. search needs) returns owed-judged-requires returns-2)
