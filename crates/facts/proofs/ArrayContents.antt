@@ -5,7 +5,7 @@ use Prim.Native.Nat.{ℕ, zero, suc, _+_, _<_}
 use native.Mathlib.Numerals.{add-one}
 use native.Mathlib.Nat.{suc-inj}
 use native.Mathlib.Omega.{arith}
-use lib.ListN.{length, getD, set}
+use lib.ListN.{length, getD, set, length-append}
 use lib.Seq.{set-getD}
 use Rattle.model.specs.declared.claims.Range.{Range}
 use Rattle.model.specs.declared.claims.Stripe.{Stripe}
@@ -69,6 +69,11 @@ unfolding stripesOf
 stripes-more rows n = rw (add-one n) refl
 
 -- a row written after the first n
+pub stripes-count : (rows : List ℕ) (n : ℕ) → length (stripesOf rows n) ≡ n
+unfolding stripesOf
+stripes-count rows zero = refl
+stripes-count rows (suc n) = length-append (stripesOf rows n) _ ∙ ap (λ (m : ℕ). m + 1) (stripes-count rows n) ∙ add-one n
+
 pub stripes-written : (rows : List ℕ) (n : ℕ) (s : Stripe) → SizedRows rows → n < edgeStripes → stripesOf (withStripe rows n s) (n + 1) ≡ stripesOf rows n ++ (s ∷ [])
 stripes-written rows n s sized inside =
     stripes-more (withStripe rows n s) n

@@ -1,17 +1,16 @@
 -- The promise of T-06, proved: a run that is not turned back starts where the claims are met, and keeps to such states. Assumes nothing.
 use Prim.Native.Nat.{ℕ, _≤_}
-use mathlib.Core.Path.{_≡_, refl, sym, ap, subst, _∙_}
+use mathlib.Core.Path.{_≡_, refl, sym}
 use mathlib.Core.Bool.{true, false, false≢true}
 use mathlib.Core.List.{List, [], _∷_}
 use lib.ListN.{length}
 use Rattle.model.specs.Types.{State, Judgement, Accepted, refused, ClaimsNotMet}
 use Rattle.model.specs.Limits.{registers}
-use Rattle.model.specs.Lists.{every}
 use Rattle.model.specs.Answers.{_andThen_}
 use Rattle.model.specs.Listing.{Point, listingOf, pointsOf, pointExists}
 use Rattle.model.specs.Machine.{Tables, sizesOf, configOf}
 use Rattle.model.specs.Check.{listingJudged}
-use Rattle.model.specs.Run.{meetsClaims, tablesFit, claimsMet, stateJudged, runJudged, runFor, Ran, finished, ranFrom, run}
+use Rattle.model.specs.Run.{meetsClaims, tablesFit, claimsMet, stateJudged, runJudged, Ran, ranFrom, run}
 use Rattle.model.specs.Safety.{Call, Sized, ranOn}
 use Rattle.model.specs.EmptyPoints.{turnedBack, AwayFromEmpty, AvoidsEmpty, AllLendBytes, AllAvoidEmpty, EmptyNotReached}
 use Rattle.model.proofs.Reading.{both-accepted, test-passed}

@@ -58,7 +58,7 @@ unfoldable pub owedJudged : List Point → ℕ → Point → Judgement
 unfolding safetyJudged factsOf factsAlong lostAlong
 owedJudged ps p q = safetyJudged (q .line) (factsOf (q .claims)) (q .instruction) andThen edgesJudged ps p q (edges (q .instruction))
 
--- everything that q, the p-th point, owes
+-- everything that q, the p-th point, owes; an empty point owes nothing
 unfoldable pub pointJudged : List Point → ℕ → Point → Judgement
 unfolding factsOf nonEmpty owedJudged
 pointJudged ps p q = cond (isEmpty q) Accepted (owedJudged ps p q)

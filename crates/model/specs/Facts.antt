@@ -71,10 +71,14 @@ withClaims f (c ∷ cs) = withClaims (withClaim f c) cs
 unfoldable pub factsOf : List Claim → Facts
 factsOf cs = withClaims unclaimed cs
 
--- every variable's range has a value
+-- the range of a variable has a value
+abbrev pub hasValue : List Range → ℕ → Bool
+hasValue rs v = leb (lo rs v) (hi rs v)
+
+-- every variable's range does
 unfoldable pub nonEmpty : List Range → Bool
 unfolding everyBelow
-nonEmpty rs = everyBelow (λ (v : ℕ). leb (lo rs v) (hi rs v)) variables
+nonEmpty rs = everyBelow (hasValue rs) variables
 
 -- the value lies in the range
 abbrev pub inRange : ℕ → Range → Bool

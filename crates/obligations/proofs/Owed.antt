@@ -1,28 +1,47 @@
 -- What a point owes, over the points that rows and places hold. Assumes nothing.
 use mathlib.Core.Path.{_≡_, refl, sym, ap, ap₂, _∙_}
-use mathlib.Core.Bool.{Bool, true, false, cond, false≢true}
+use mathlib.Core.Bool.{Bool, true, false, not, cond, false≢true}
 use mathlib.Core.List.{List, [], _∷_, _++_}
 use Prim.Native.Nat.{ℕ, suc, _+_, _-_, _<_}
 use native.Mathlib.Omega.{arith}
 use native.Mathlib.Numerals.{add-one}
+use borrow.Author.Tests.{not-false}
 use mathlib.Core.List.{map}
+use lib.ListN.{length}
 use Rattle.model.specs.declared.machine.Instruction.{Instruction}
 use Rattle.model.specs.declared.machine.Edge.{Edge}
 use Rattle.model.specs.declared.machine.Edge.the-variants.{Next, Target}
 use Rattle.model.specs.declared.answers.Judgement.{Judgement}
 use Rattle.model.specs.declared.answers.Judgement.the-variants.{Accepted, Refused as refused}
 use Rattle.model.specs.Answers.{_andThen_}
-use Rattle.model.specs.Facts.{Facts, factsOf}
+use Rattle.model.specs.Facts.{Facts, factsOf, nonEmpty}
 use Rattle.model.specs.Instructions.{targets, goesOn, hasTarget}
-use Rattle.model.specs.Listing.{Point, pointAt}
+use Rattle.model.specs.Listing.{Point, isEmpty, pointAt}
 use Rattle.model.specs.Transfer.{factsAlong}
 use Rattle.model.specs.Check.{claimsJudged, edgesJudged, safetyJudged, owedJudged, pointJudged, pointsJudged}
 use Rattle.decoded.proofs.RowInstructions.{none-named}
-use Rattle.reader.specs.Points.{pointIn, pointsIn, Placed, Holds}
+use Rattle.facts.specs.Known.{rangesOf, known}
+use Rattle.facts.proofs.ArrayContents.{stripes-count}
+use Rattle.decoded.proofs.Claims.{claims-count}
+use Rattle.reader.specs.Points.{numberIn, firstIn, pointIn, pointsIn, Placed, Holds}
 use Rattle.reader.proofs.PlacedPoints.{points-at}
 use Rattle.model.specs.Answers.{isRefused}
 use Rattle.model.proofs.Judgements.{accepted, stays-refused}
 use Rattle.obligations.proofs.FirstRefusal.{refused-stays}
+
+-- a point that is not empty has a value in every range of its facts
+pub has-values : (q : Point) (f : Facts) → f ≡ factsOf (q .claims) → isEmpty q ≡ false → nonEmpty (f .ranges) ≡ true
+has-values q f e n = not-false (nonEmpty (f .ranges)) (ap (λ (g : Facts). not (nonEmpty (g .ranges))) e ∙ n)
+
+-- the test of a point's arrays tells whether it is empty
+pub tells-empty : (rows at : List ℕ) (p : ℕ) (low high stripes : List ℕ) (n m : ℕ) (b : Bool)
+    → ((q : Point) → n ≡ length (q .claims) → m ≡ length (factsOf (q .claims) .stripes) → rangesOf low high ≡ factsOf (q .claims) .ranges → b ≡ isEmpty q)
+    → n ≡ numberIn at p → known low high stripes m ≡ factsOf (pointIn rows at p .claims) → b ≡ isEmpty (pointIn rows at p)
+tells-empty rows at p low high stripes n m b test count facts =
+    test (pointIn rows at p)
+    (count ∙ sym (claims-count rows (firstIn at p) (numberIn at p)))
+    (sym (stripes-count stripes m) ∙ ap (λ (f : Facts). length (f .stripes)) facts)
+    (ap (λ (f : Facts). f .ranges) facts)
 
 then-accepted : (j : Judgement) → (j andThen Accepted) ≡ j
 then-accepted Accepted = refl

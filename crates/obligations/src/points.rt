@@ -3,25 +3,30 @@ use crate::lost::edge_judged;
 use crate::safety::safety_judged;
 use decoded::decode::has_target;
 use decoded::decode::instruction_from;
-use domain::is_possible;
+use domain::all_have_values;
 use facts::sizes::STRIPE_NUMBERS;
 use model::answers::Judgement;
 use model::answers::is_refused;
 use model::limits::VARIABLES;
 use model::machine::Edge;
+use reader::places::claims_of;
 use reader::places::instruction_row;
 use reader::places::line_of;
 use reader::point_facts::facts_at;
 use reader::whole::goes_on;
 ghost use mathlib.Core.Path.{_≡_};
+ghost use mathlib.Core.Bool.{false};
 ghost use Prim.Native.Nat.{_<_};
+ghost use lib.ListN.{length};
+ghost use Rattle.model.specs.Limits.{variables};
 ghost use Rattle.model.specs.Facts.{factsOf};
+ghost use Rattle.model.specs.Listing.{Point, isEmpty};
 ghost use Rattle.model.specs.Check;
 ghost use Rattle.facts.specs.StripeRows.{SizedRows};
-ghost use Rattle.facts.specs.Known.{known, Standing, AtPoint};
+ghost use Rattle.facts.specs.Known.{rangesOf, known, Standing, AtPoint};
 ghost use Rattle.reader.specs.Points.{pointIn, pointsIn, Holds};
 
-// What point p of n, whose facts are written in the arrays, owes if it is not empty, in order. An edge changes the ends, so before the target's the facts are written again.
+// What point p of n, which is not empty and whose facts are written in the arrays, owes, in order. An edge changes the ends, so before the target's the facts are written again.
 fn owed_judged<'a>(
     rows: &'a [u64],
     at: &'a [u16],
@@ -37,6 +42,7 @@ fn owed_judged<'a>(
     requires { ⌜ known (now low) (now high) (now stripes) m ≡ factsOf (pointIn (now rows) (now at) p .claims) ⌝ }
     requires { ⌜ AtPoint (now low) (now high) (now stripes) m ⌝ }
     requires { ⌜ SizedRows (now «edge_stripes») ⌝ }
+    requires { ⌜ isEmpty (pointIn (now rows) (now at) p) ≡ false ⌝ }
     ensures { λ r. ⌜ r ≡ Check.owedJudged (pointsIn (now (rows .entry)) (now (at .entry)) n) p (pointIn (now (rows .entry)) (now (at .entry)) p) ⌝ }
     ensures { λ r. ⌜ Standing (now (stripes .exit)) 0 × SizedRows (now («edge_stripes» .exit)) ⌝ }
 {
@@ -85,6 +91,17 @@ fn owed_judged<'a>(
     )
 }
 
+// Whether a point with these ranges is empty, which has n claims, m of them stripes. Stripes change no range: where all claims are stripes, none is looked at.
+fn is_empty<'a>(low: &'a [u64; VARIABLES], high: &'a [u64; VARIABLES], n: usize, m: usize) -> bool
+    requires { ⌜ (length (now low) ≡ variables) × (length (now high) ≡ variables) ⌝ }
+    ensures { λ r. ⌜ ((q : Point) → n ≡ length (q .claims) → m ≡ length (factsOf (q .claims) .stripes) → rangesOf (now (low .entry)) (now (high .entry)) ≡ factsOf (q .claims) .ranges → r ≡ isEmpty q) ⌝ }
+{
+    if m == n {
+        return false;
+    }
+    !all_have_values(low, high)
+}
+
 // Everything that point p of n owes. An empty point owes nothing, and only its claims are read. The arrays are lent to be written in.
 fn point_judged<'a>(
     rows: &'a [u64],
@@ -102,7 +119,7 @@ fn point_judged<'a>(
     ensures { λ r. ⌜ Standing (now (stripes .exit)) 0 × SizedRows (now («edge_stripes» .exit)) ⌝ }
 {
     let m = facts_at(rows, at, p, low, high, stripes);
-    if !is_possible(low, high) {
+    if is_empty(low, high, claims_of(at, p), m) {
         return Judgement::Accepted;
     }
     owed_judged(rows, at, n, p, low, high, stripes, m, edge_stripes)

@@ -1,4 +1,4 @@
-//! Points whose claimed ranges are empty for some variable: they owe nothing, what leads to them owes their claims, and
+//! Points that leave some variable no value: they owe nothing, what leads to them owes their claims, and
 //! no run comes to them.
 
 mod answers;
