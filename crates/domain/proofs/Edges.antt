@@ -1,20 +1,14 @@
 -- The arrays that an edge writes know what the definition says. Assumes nothing.
-use mathlib.Core.Path.{_≡_, refl, ap, sym, _∙_}
-use mathlib.Core.Bool.{Bool, true, false, _&&_, false≢true}
+use mathlib.Core.Path.{_≡_, ap, sym, _∙_}
 use mathlib.Core.List.{List}
 use Prim.Native.Nat.{ℕ, _≤_, _<_}
-use native.Mathlib.Decide.{ℕ-discrete, decLt}
+use native.Mathlib.Decide.{decLt}
 use native.Mathlib.Omega.{arith}
 use lib.ListN.{length, getD, set, length-set, List·getD-eq-default}
-use lib.Seq.{getD-set-other}
-use lib.Dec.{leb}
 use Rattle.model.specs.declared.machine.Edge.{Edge}
 use Rattle.model.specs.declared.machine.Instruction.{Instruction}
 use Rattle.model.specs.declared.claims.Range.{Range}
 use Rattle.model.specs.Limits.{variables, MAX}
-use Rattle.model.specs.Lists.{everyBelow}
-use Rattle.model.specs.Facts.{exactly, rangeOf, hasValue, nonEmpty}
-use Rattle.model.proofs.Tests.{every-below, all-below}
 use Rattle.model.specs.Transfer.{rangesAlong, stripesAlong, factsAlong}
 use Rattle.model.specs.Limited.{Limited}
 use Rattle.facts.specs.Ends.{SizedEnds}
@@ -41,7 +35,7 @@ module _ (low high : List ℕ) (ends : Ends low high) (c : Changes) (low' high' 
   pub low-long : length low' ≡ variables
   low-long = ap length lows ∙ length-set (set low (c .v) (c .r .lo)) (c .u) (c .q .lo) ∙ length-set low (c .v) (c .r .lo) ∙ ends .lows .long
 
-  pub high-long : length high' ≡ variables
+  high-long : length high' ≡ variables
   high-long = ap length highs ∙ length-set (set high (c .v) (c .r .hi)) (c .u) (c .q .hi) ∙ length-set high (c .v) (c .r .hi) ∙ ends .highs .long
 
   module _ (new : List Range) (makes : Makes c (rangesOf low high) new) where
@@ -64,32 +58,3 @@ pub edge-known : (e : Edge) (i : Instruction) (low high stripes : List ℕ) (n :
     known low' high' stripes' r ≡ factsAlong e i (known low high stripes n)
 unfolding factsAlong
 edge-known e i low high stripes n low' high' stripes' r p q = rw (p, q)
-
--- where no range is empty and two are changed, none is if these two have values
-pub changed-possible : (c : Changes) (rs new : List Range) → Makes c rs new → nonEmpty rs ≡ true → (hasValue new (c .v) && hasValue new (c .u)) ≡ nonEmpty new
-unfolding nonEmpty
-changed-possible c rs new makes e = go (hasValue new (c .v)) (hasValue new (c .u)) refl refl (everyBelow (hasValue new) variables) refl
-  where
-    kept : (w : ℕ) → (w ≡ c .v → ⊥) → (w ≡ c .u → ⊥) → rangeOf new w ≡ rangeOf rs w
-    kept w a b =
-        ap (λ (xs : List Range). rangeOf xs w) (sym (makes .same))
-        ∙ getD-set-other (set rs (c .v) (c .r)) (c .u) w (c .q) (exactly 0) b
-        ∙ getD-set-other rs (c .v) w (c .r) (exactly 0) a
-
-    each : hasValue new (c .v) ≡ true → hasValue new (c .u) ≡ true → (w : ℕ) → w < variables → hasValue new w ≡ true
-    each a b w h = at-v (ℕ-discrete w (c .v))
-      where
-        at-u : (w ≡ c .v → ⊥) → Dec (w ≡ c .u) → hasValue new w ≡ true
-        at-u n (yes q) = rw q b
-        at-u n (no q) = ap (λ (r : Range). leb (r .lo) (r .hi)) (kept w n q) ∙ every-below (hasValue rs) variables e w h
-
-        at-v : Dec (w ≡ c .v) → hasValue new w ≡ true
-        at-v (yes q) = rw q a
-        at-v (no q) = at-u q (ℕ-discrete w (c .u))
-
-    go : (x y : Bool) → hasValue new (c .v) ≡ x → hasValue new (c .u) ≡ y → (z : Bool) → everyBelow (hasValue new) variables ≡ z → (x && y) ≡ z
-    go true true a b z d = sym (all-below (hasValue new) variables (each a b)) ∙ d
-    go true false a b true d = absurd (false≢true (sym b ∙ every-below (hasValue new) variables d (c .u) (makes .second)))
-    go true false a b false d = refl
-    go false y a b true d = absurd (false≢true (sym a ∙ every-below (hasValue new) variables d (c .v) (makes .first)))
-    go false y a b false d = refl

@@ -14,13 +14,12 @@ use model::limits::VARIABLES;
 use model::machine::Edge;
 use model::machine::Instruction;
 ghost use mathlib.Core.Path.{_≡_};
-ghost use mathlib.Core.Bool.{true, _&&_};
 ghost use mathlib.Core.List.{[], _∷_};
-ghost use Prim.Native.Nat.{_+_, _≤_, _<_};
+ghost use Prim.Native.Nat.{_+_, _≤_};
 ghost use lib.ListN.{length};
 ghost use Rattle.model.specs.Limits.{variables, greatestStripes};
 ghost use Rattle.model.specs.Facts as Model;
-ghost use Rattle.model.specs.Facts.{withClaim, hasValue, nonEmpty};
+ghost use Rattle.model.specs.Facts.{withClaim, nonEmpty};
 ghost use Rattle.model.specs.Listing.{stripesAmong};
 ghost use Rattle.model.specs.Transfer.{factsAlong};
 ghost use Rattle.model.specs.Limited.{ClaimLimited, Limited};
@@ -74,27 +73,8 @@ pub fn with_claim<'a>(
     }
 }
 
-// What is known of an edge besides its arrays: how many stripes there are, and whether it is possible.
-pub struct EdgeKnown {
-    pub count: usize,
-    pub possible: bool,
-}
-
-// Whether two ranges have a value. Where no range was empty and these two were changed, whether none is.
-fn both_have_values<'a>(
-    low: &'a [u64; VARIABLES],
-    high: &'a [u64; VARIABLES],
-    v: usize,
-    u: usize,
-) -> bool
-    requires { ⌜ (length (now low) ≡ variables) × (length (now high) ≡ variables) ⌝ }
-    requires { ⌜ (v < variables) × (u < variables) ⌝ }
-    ensures { λ r. ⌜ r ≡ (hasValue (rangesOf (now (low .entry)) (now (high .entry))) v && hasValue (rangesOf (now (low .entry)) (now (high .entry))) u) ⌝ }
-{
-    (low[v] <= high[v]) & (low[u] <= high[u])
-}
-
-// Writes what is known along an edge of an instruction, from what is known at its point, which is not empty: the ends are changed where they stand, the stripes are written anew.
+// Writes what is known along an edge of an instruction, from what is known at its point: the ends are changed where they stand, the stripes are written anew.
+// The answer is how many stripes there are.
 pub fn along<'a>(
     e: Edge,
     i: Instruction,
@@ -103,27 +83,21 @@ pub fn along<'a>(
     stripes: &'a [u64; STRIPE_NUMBERS],
     n: usize,
     edge_stripes: &'a mut [u64; STRIPE_NUMBERS],
-) -> EdgeKnown
+) -> usize
     requires { ⌜ AtPoint (now low) (now high) (now stripes) n ⌝ }
     requires { ⌜ Limited i ⌝ }
     requires { ⌜ SizedRows (now «edge_stripes») ⌝ }
-    requires { ⌜ nonEmpty (rangesOf (now low) (now high)) ≡ true ⌝ }
-    ensures { λ r. ⌜ known (now (low .exit)) (now (high .exit)) (now («edge_stripes» .exit)) (r .count) ≡ factsAlong e i (known (now (low .entry)) (now (high .entry)) (now (stripes .entry)) n) ⌝ }
-    ensures { λ r. ⌜ AlongEdge (now (low .exit)) (now (high .exit)) (now («edge_stripes» .exit)) (r .count) ⌝ }
-    ensures { λ r. ⌜ r .possible ≡ nonEmpty (rangesOf (now (low .exit)) (now (high .exit))) ⌝ }
+    ensures { λ r. ⌜ known (now (low .exit)) (now (high .exit)) (now («edge_stripes» .exit)) r ≡ factsAlong e i (known (now (low .entry)) (now (high .entry)) (now (stripes .entry)) n) ⌝ }
+    ensures { λ r. ⌜ AlongEdge (now (low .exit)) (now (high .exit)) (now («edge_stripes» .exit)) r ⌝ }
 {
     let c = changes_along(e, i, low, high);
     let p = plan_along(e, i, low, high);
     change(c, low, high);
-    let possible = both_have_values(low, high, c.v, c.u);
-    EdgeKnown {
-        count: carry_out(p, stripes, n, edge_stripes),
-        possible,
-    }
+    carry_out(p, stripes, n, edge_stripes)
 }
 
-// Whether no range is empty.
-pub fn all_have_values<'a>(low: &'a [u64; VARIABLES], high: &'a [u64; VARIABLES]) -> bool
+// Whether no range is empty; along an edge, whether it is possible.
+pub fn is_possible<'a>(low: &'a [u64; VARIABLES], high: &'a [u64; VARIABLES]) -> bool
     requires { ⌜ (length (now low) ≡ variables) × (length (now high) ≡ variables) ⌝ }
     ensures { λ r. ⌜ r ≡ nonEmpty (rangesOf (now (low .entry)) (now (high .entry))) ⌝ }
 {

@@ -1,17 +1,17 @@
 -- The arrays of a point with a claim more, and what the tests of goals ask of arrays. Assumes nothing.
 use mathlib.Core.Path.{_≡_, ap, sym, subst, _∙_}
-use mathlib.Core.Bool.{true}
+use mathlib.Core.Bool.{Bool, true}
 use mathlib.Core.List.{List}
 use Prim.Native.Nat.{ℕ, _+_, _≤_, _<_}
 use native.Mathlib.Decide.{ℕ-discrete}
 use native.Mathlib.Omega.{arith}
-use lib.Dec.{ltb}
+use lib.Dec.{leb, ltb}
 use lib.ListN.{length, set, getD}
 use borrow.Author.Tests.{leb-true}
 use Rattle.model.specs.declared.claims.Range.{Range}
 use Rattle.model.specs.declared.claims.Stripe.{Stripe}
 use Rattle.model.specs.Limits.{registers, variables, MAX, greatestBound, greatestStripes}
-use Rattle.model.specs.Facts.{registerRange, sizeRange, unclaimedRange, lo, hi, hasValue, nonEmpty}
+use Rattle.model.specs.Facts.{registerRange, sizeRange, unclaimedRange, lo, hi, nonEmpty}
 use Rattle.model.proofs.Tests.{cond-cases, every-below}
 use Rattle.model.specs.Limited.{StripeLimited}
 use Rattle.facts.specs.Ends.{SizedEnds}
@@ -73,8 +73,11 @@ possible-low low high long highs e = record { long = long; most = λ v h. go v h
     even : length low ≡ length high
     even = long ∙ sym (highs .long)
 
+    has : ℕ → Bool
+    has u = leb (lo (rangesOf low high) u) (hi (rangesOf low high) u)
+
     go : (v : ℕ) → v < variables → getD low v 0 ≤ MAX
-    go v h = omega (arith, low-held low high v even, high-held low high v even, highs .most v h, leb-true (lo (rangesOf low high) v) (hi (rangesOf low high) v) (every-below (hasValue (rangesOf low high)) variables e v h))
+    go v h = omega (arith, low-held low high v even, high-held low high v even, highs .most v h, leb-true (lo (rangesOf low high) v) (hi (rangesOf low high) v) (every-below has variables e v h))
 
 -- the arrays along a possible edge, as the tests of goals ask
 pub edge-sized : (low high stripes : List ℕ) (n : ℕ) → AlongEdge low high stripes n → nonEmpty (rangesOf low high) ≡ true → Sized low high stripes n

@@ -5,12 +5,12 @@ use mathlib.Core.List.{List, [], _∷_}
 use Prim.Native.Nat.{ℕ, zero, suc, _+_, _*_, _≤_}
 use native.Mathlib.Nat.{add-comm, mul-add, mul-le-mul-left, one-mul}
 use native.Mathlib.Omega.{arith}
-use lib.Dec.{eqb}
+use lib.Dec.{eqb, leb}
 use borrow.Author.Tests.{leb-true, le-leb, eqb-true}
 use Rattle.model.specs.Types.{Stripe, Claim, Leas, Most, Strp, Turn}
 use Rattle.model.specs.Limits.{variables, greatestLinks}
 use Rattle.model.specs.Lists.{some}
-use Rattle.model.specs.Facts.{Facts, lo, hi, hasValue, nonEmpty}
+use Rattle.model.specs.Facts.{Facts, lo, hi, nonEmpty}
 use Rattle.model.specs.Follows.{byRanges, sameSides, covers, atOnce, isLink, overY, overZ, throughLink, follows, claimFollows, firstLost, lostAlong}
 use Rattle.model.proofs.Tests.{or-cases, and-left, and-right, all-below}
 use Rattle.model.proofs.Meaning.{Holds, AllHold, Met}
@@ -115,7 +115,7 @@ module _ (val : ℕ → ℕ) (f : Facts) (h : Met val f) where
   -- where the facts are met no range is empty: an edge with these facts is possible
   pub is-possible : nonEmpty (f .ranges) ≡ true
   unfolding nonEmpty
-  is-possible = all-below (hasValue (f .ranges)) variables (λ v i. let r = h .ranges v in le-leb (lo (f .ranges) v) (hi (f .ranges) v) (omega arith))
+  is-possible = all-below (λ (v : ℕ). leb (lo (f .ranges) v) (hi (f .ranges) v)) variables (λ v i. let r = h .ranges v in le-leb (lo (f .ranges) v) (hi (f .ranges) v) (omega arith))
 
   pub none-lost-along : (n : ℕ) (cs : List Claim) → 1 ≤ n → lostAlong f n cs ≡ 0 → ClaimsHold val cs
   unfolding lostAlong

@@ -71,14 +71,10 @@ withClaims f (c ∷ cs) = withClaims (withClaim f c) cs
 unfoldable pub factsOf : List Claim → Facts
 factsOf cs = withClaims unclaimed cs
 
--- the range of a variable has a value
-abbrev pub hasValue : List Range → ℕ → Bool
-hasValue rs v = leb (lo rs v) (hi rs v)
-
--- every variable's range does
+-- every variable's range has a value
 unfoldable pub nonEmpty : List Range → Bool
 unfolding everyBelow
-nonEmpty rs = everyBelow (hasValue rs) variables
+nonEmpty rs = everyBelow (λ (v : ℕ). leb (lo rs v) (hi rs v)) variables
 
 -- the value lies in the range
 abbrev pub inRange : ℕ → Range → Bool

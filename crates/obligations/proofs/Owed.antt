@@ -1,11 +1,10 @@
 -- What a point owes, over the points that rows and places hold. Assumes nothing.
 use mathlib.Core.Path.{_≡_, refl, sym, ap, ap₂, _∙_}
-use mathlib.Core.Bool.{Bool, true, false, not, cond, false≢true}
+use mathlib.Core.Bool.{Bool, true, false, cond, false≢true}
 use mathlib.Core.List.{List, [], _∷_, _++_}
 use Prim.Native.Nat.{ℕ, suc, _+_, _-_, _<_}
 use native.Mathlib.Omega.{arith}
 use native.Mathlib.Numerals.{add-one}
-use borrow.Author.Tests.{not-false}
 use mathlib.Core.List.{map}
 use lib.ListN.{length}
 use Rattle.model.specs.declared.machine.Instruction.{Instruction}
@@ -14,7 +13,7 @@ use Rattle.model.specs.declared.machine.Edge.the-variants.{Next, Target}
 use Rattle.model.specs.declared.answers.Judgement.{Judgement}
 use Rattle.model.specs.declared.answers.Judgement.the-variants.{Accepted, Refused as refused}
 use Rattle.model.specs.Answers.{_andThen_}
-use Rattle.model.specs.Facts.{Facts, factsOf, nonEmpty}
+use Rattle.model.specs.Facts.{Facts, factsOf}
 use Rattle.model.specs.Instructions.{targets, goesOn, hasTarget}
 use Rattle.model.specs.Listing.{Point, isEmpty, pointAt}
 use Rattle.model.specs.Transfer.{factsAlong}
@@ -28,10 +27,6 @@ use Rattle.reader.proofs.PlacedPoints.{points-at}
 use Rattle.model.specs.Answers.{isRefused}
 use Rattle.model.proofs.Judgements.{accepted, stays-refused}
 use Rattle.obligations.proofs.FirstRefusal.{refused-stays}
-
--- a point that is not empty has a value in every range of its facts
-pub has-values : (q : Point) (f : Facts) → f ≡ factsOf (q .claims) → isEmpty q ≡ false → nonEmpty (f .ranges) ≡ true
-has-values q f e n = not-false (nonEmpty (f .ranges)) (ap (λ (g : Facts). not (nonEmpty (g .ranges))) e ∙ n)
 
 -- the test of a point's arrays tells whether it is empty
 pub tells-empty : (rows at : List ℕ) (p : ℕ) (low high stripes : List ℕ) (n m : ℕ) (b : Bool)

@@ -1,6 +1,7 @@
 // Refusal 14: the claims of a point that do not follow along an edge to it.
 use decoded::decode::claim_at;
 use domain::along;
+use domain::is_possible;
 use facts::sizes::STRIPE_NUMBERS;
 use goals::follows::claim_follows;
 use model::answers::Judgement;
@@ -23,7 +24,7 @@ ghost use Rattle.model.specs.Limited.{Limited};
 ghost use Rattle.facts.specs.StripeRows.{SizedRows};
 ghost use Rattle.facts.specs.Laid.{Laid, Sized};
 ghost use Rattle.decoded.specs.Decoded.{claimsFrom};
-ghost use Rattle.facts.specs.Known.{rangesOf, known, AtPoint};
+ghost use Rattle.facts.specs.Known.{known, AtPoint};
 ghost use Rattle.reader.specs.Points.{ClaimRows, Placed, pointIn};
 
 // The line of the first of n claims, from row from on, that does not follow; 0 for none.
@@ -52,7 +53,7 @@ fn lost_among<'a>(
     0
 }
 
-// The judgement of an edge to point t, by the claims of that point, from a point that is not empty. Where there is no such edge, nothing is owed.
+// The judgement of an edge to point t, by the claims of that point. Where there is no such edge, nothing is owed.
 // The ends become those along the edge.
 pub(crate) fn edge_judged<'a>(
     rows: &'a [u64],
@@ -72,7 +73,6 @@ pub(crate) fn edge_judged<'a>(
     requires { ⌜ AtPoint (now low) (now high) (now stripes) m ⌝ }
     requires { ⌜ Limited i ⌝ }
     requires { ⌜ SizedRows (now «edge_stripes») ⌝ }
-    requires { ⌜ Model.nonEmpty (rangesOf (now low) (now high)) ≡ true ⌝ }
     ensures { λ r. ⌜ r ≡ cond there (claimsJudged line (factsAlong e i (known (now (low .entry)) (now (high .entry)) (now (stripes .entry)) m)) (pointIn (now (rows .entry)) (now (at .entry)) t)) Accepted ⌝ }
     ensures { λ r. ⌜ SizedRows (now («edge_stripes» .exit)) ⌝ }
 {
@@ -83,12 +83,12 @@ pub(crate) fn edge_judged<'a>(
     if n == 0 {
         return Judgement::Accepted;
     }
-    let edge = along(e, i, low, high, stripes, m, edge_stripes);
-    if !edge.possible {
+    let count = along(e, i, low, high, stripes, m, edge_stripes);
+    if !is_possible(low, high) {
         return Judgement::Accepted;
     }
     let from = first_of(at, t);
-    let lost = lost_among(rows, from, n, low, high, edge_stripes, edge.count);
+    let lost = lost_among(rows, from, n, low, high, edge_stripes, count);
     if lost == 0 {
         return Judgement::Accepted;
     }

@@ -3,7 +3,7 @@ use crate::lost::edge_judged;
 use crate::safety::safety_judged;
 use decoded::decode::has_target;
 use decoded::decode::instruction_from;
-use domain::all_have_values;
+use domain::is_possible;
 use facts::sizes::STRIPE_NUMBERS;
 use model::answers::Judgement;
 use model::answers::is_refused;
@@ -15,7 +15,6 @@ use reader::places::line_of;
 use reader::point_facts::facts_at;
 use reader::whole::goes_on;
 ghost use mathlib.Core.Path.{_≡_};
-ghost use mathlib.Core.Bool.{false};
 ghost use Prim.Native.Nat.{_<_};
 ghost use lib.ListN.{length};
 ghost use Rattle.model.specs.Limits.{variables};
@@ -26,7 +25,7 @@ ghost use Rattle.facts.specs.StripeRows.{SizedRows};
 ghost use Rattle.facts.specs.Known.{rangesOf, known, Standing, AtPoint};
 ghost use Rattle.reader.specs.Points.{pointIn, pointsIn, Holds};
 
-// What point p of n, which is not empty and whose facts are written in the arrays, owes, in order. An edge changes the ends, so before the target's the facts are written again.
+// What point p of n, whose facts are written in the arrays, owes if it is not empty, in order. An edge changes the ends, so before the target's the facts are written again.
 fn owed_judged<'a>(
     rows: &'a [u64],
     at: &'a [u16],
@@ -42,7 +41,6 @@ fn owed_judged<'a>(
     requires { ⌜ known (now low) (now high) (now stripes) m ≡ factsOf (pointIn (now rows) (now at) p .claims) ⌝ }
     requires { ⌜ AtPoint (now low) (now high) (now stripes) m ⌝ }
     requires { ⌜ SizedRows (now «edge_stripes») ⌝ }
-    requires { ⌜ isEmpty (pointIn (now rows) (now at) p) ≡ false ⌝ }
     ensures { λ r. ⌜ r ≡ Check.owedJudged (pointsIn (now (rows .entry)) (now (at .entry)) n) p (pointIn (now (rows .entry)) (now (at .entry)) p) ⌝ }
     ensures { λ r. ⌜ Standing (now (stripes .exit)) 0 × SizedRows (now («edge_stripes» .exit)) ⌝ }
 {
@@ -99,7 +97,7 @@ fn is_empty<'a>(low: &'a [u64; VARIABLES], high: &'a [u64; VARIABLES], n: usize,
     if m == n {
         return false;
     }
-    !all_have_values(low, high)
+    !is_possible(low, high)
 }
 
 // Everything that point p of n owes. An empty point owes nothing, and only its claims are read. The arrays are lent to be written in.

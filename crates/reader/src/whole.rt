@@ -128,7 +128,7 @@ fn start_judged<'a>(rows: &'a [u64], at: &'a [u16], n: usize) -> Judgement
     let mut high = [0u64; VARIABLES];
     let mut stripes = [0u64; STRIPE_NUMBERS];
     facts_at(rows, at, 0, &mut low, &mut high, &mut stripes);
-    if domain::all_have_values(&low, &high) {
+    if domain::is_possible(&low, &high) {
         return Judgement::Accepted;
     }
     Judgement::Refused(Refusal::EmptyStart {

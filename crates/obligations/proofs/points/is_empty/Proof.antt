@@ -11,7 +11,7 @@ returns : tie.Need-returns
 returns c q claims stripes ranges = sym (stripes-alone q (sym stripes ∙ c .if1 .taken ∙ claims))
 
 returns-2 : tie.Need-returns-2
-returns-2 c q claims stripes ranges = ap not (c .all-have-values .ensures ∙ ap nonEmpty ranges)
+returns-2 c q claims stripes ranges = ap not (c .is-possible .ensures ∙ ap nonEmpty ranges)
 
 pub is-empty-spec : {M : Type 1} → statement M
 is-empty-spec =

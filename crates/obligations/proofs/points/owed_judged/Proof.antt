@@ -4,9 +4,8 @@ use Rattle.model.specs.Instructions.{targets, hasTarget}
 use Rattle.decoded.specs.declared.rows.Row.{Row}
 use Rattle.decoded.specs.Decoded.{instructionFrom}
 use Rattle.decoded.proofs.RowInstructions.{own-target}
-use Rattle.reader.specs.Points.{pointIn}
 use Rattle.obligations.proofs.AccessNumbers.{none-stand}
-use Rattle.obligations.proofs.Owed.{has-values, next-placed, target-placed, by-safety, by-next, by-none, by-target}
+use Rattle.obligations.proofs.Owed.{next-placed, target-placed, by-safety, by-next, by-none, by-target}
 use borrow.Author.Needs.{needs}
 use borrow.Author.Tests.{not-true, not-false}
 use Rattle.obligations.proofs.points.owed_judged.Statement.{statement}
@@ -28,7 +27,7 @@ returns c =
     let h = c .before .before .before .before .before .before .before .before .before .before .before .pre .0 in
     let i = c .before .before .before .before .before .before .before .instruction-from .ensures ∙ ap instructionFrom (c .before .before .before .before .before .before .before .before .instruction-row .ensures) in (
       by-safety _ _ _ _ (h .0) (h .1) _ _ _ (c .before .before .before .before .before .before .line-of .ensures) (c .before .before .before .before .before .before .before .before .before .before .before .pre .1 .0) i _ (c .before .before .safety-judged .ensures) (sym (c .before .is-refused .ensures) ∙ c .if1 .taken),
-      (none-stand _ _ (c .before .before .before .before .before .before .before .before .before .before .before .pre .1 .1 .0 .stripes), c .before .before .before .before .before .before .before .before .before .before .before .pre .1 .1 .1 .0),
+      (none-stand _ _ (c .before .before .before .before .before .before .before .before .before .before .before .pre .1 .1 .0 .stripes), c .before .before .before .before .before .before .before .before .before .before .before .pre .1 .1 .1),
     )
 
 edge-judged-requires : tie.Need-edge-judged-requires
@@ -37,7 +36,7 @@ edge-judged-requires c κs =
     let q = h .0 .all .each _ (h .1) in
     let i = c .before .before .before .before .before .before .before .before .before .before .before .before .instruction-from .ensures ∙ ap instructionFrom (c .before .before .before .before .before .before .before .before .before .before .before .before .before .instruction-row .ensures) in (
       next-placed _ _ _ _ (h .0) (h .1) _ _ _ (c .before .before .before .before .before .before .before .before .before .before .before .line-of .ensures) (c .before .before .before .before .before .before .before .before .before .before .before .before .before .before .before .before .pre .1 .0) i _ (c .before .before .before .before .before .before .before .safety-judged .ensures) _ (c .before .before .before .before .goes-on .ensures),
-      (c .before .before .before .before .before .before .before .before .before .before .before .before .before .before .before .before .pre .1 .1 .0, (rw i (q .point .limited), (c .before .before .before .before .before .before .before .before .before .before .before .before .before .before .before .before .pre .1 .1 .1 .0, has-values (pointIn (c .before .before .before .before .before .before .before .before .before .before .before .before .before .before .before .before .args .rows .now) (c .before .before .before .before .before .before .before .before .before .before .before .before .before .before .before .before .args .at .now) (c .before .before .before .before .before .before .before .before .before .before .before .before .before .before .before .before .args .p)) _ (c .before .before .before .before .before .before .before .before .before .before .before .before .before .before .before .before .pre .1 .0) (c .before .before .before .before .before .before .before .before .before .before .before .before .before .before .before .before .pre .1 .1 .1 .1)))),
+      (c .before .before .before .before .before .before .before .before .before .before .before .before .before .before .before .before .pre .1 .1 .0, (rw i (q .point .limited), c .before .before .before .before .before .before .before .before .before .before .before .before .before .before .before .before .pre .1 .1 .1)),
     )
 
 returns-2 : tie.Need-returns-2
@@ -66,7 +65,7 @@ edge-judged-requires-2 c κs =
     let q = h .0 .all .each _ (h .1) in
     let i = c .before .before .before .before .before .before .before .before .before .before .before .before .before .before .before .before .before .before .before .before .before .before .before .before .before .instruction-from .ensures ∙ ap instructionFrom (c .before .before .before .before .before .before .before .before .before .before .before .before .before .before .before .before .before .before .before .before .before .before .before .before .before .before .instruction-row .ensures) in (
       λ on. target-placed _ _ _ _ (h .0) (h .1) _ _ _ (c .before .before .before .before .before .before .before .before .before .before .before .before .before .before .before .before .before .before .before .before .before .before .before .before .line-of .ensures) (c .before .before .before .before .before .before .before .before .before .before .before .before .before .before .before .before .before .before .before .before .before .before .before .before .before .before .before .before .before .pre .1 .0) i _ (c .before .before .before .before .before .before .before .before .before .before .before .before .before .before .before .before .before .before .before .before .safety-judged .ensures) _ (ap (λ (r : Row). targets (instructionFrom r)) (sym (c .before .before .before .before .before .before .before .before .before .before .before .before .before .before .before .before .before .before .before .before .before .before .before .before .before .before .instruction-row .ensures)) ∙ own-target _ (sym (c .before .before .before .before .before .before .before .before .before .has-target .ensures) ∙ not-false _ (c .before .before .before .before .before .before .before .before .if3 .left))),
-      (c .before .before .before .before .facts-at .ensures .1, (rw i (q .point .limited), (c .before .before .before .before .before .before .before .before .before .before .before .before .edge-judged .ensures .1, has-values (pointIn (c .before .before .before .before .before .before .before .before .before .before .before .before .before .before .before .before .before .before .before .before .before .before .before .before .before .before .before .before .before .args .rows .now) (c .before .before .before .before .before .before .before .before .before .before .before .before .before .before .before .before .before .before .before .before .before .before .before .before .before .before .before .before .before .args .at .now) (c .before .before .before .before .before .before .before .before .before .before .before .before .before .before .before .before .before .before .before .before .before .before .before .before .before .before .before .before .before .args .p)) _ (c .before .before .before .before .facts-at .ensures .0) (c .before .before .before .before .before .before .before .before .before .before .before .before .before .before .before .before .before .before .before .before .before .before .before .before .before .before .before .before .before .pre .1 .1 .1 .1)))),
+      (c .before .before .before .before .facts-at .ensures .1, (rw i (q .point .limited), c .before .before .before .before .before .before .before .before .before .before .before .before .edge-judged .ensures .1)),
     )
 
 returns-4 : tie.Need-returns-4

@@ -24,9 +24,7 @@ owed-judged-requires : tie.Need-owed-judged-requires
 owed-judged-requires c κs =
     let h = c .before .before .before .before .before .before .before .before .before .before .before .before .before .before .before .pre in
     let f = c .before .before .before .before .before .before .before .before .before .facts-at .ensures in
-    let a = c .before .before .before .before .before .before .before .before .before .before .before .before .before .before .before .args in
-    let e = tells-empty (a .rows .now) (a .at .now) (a .p) _ _ _ _ _ _ (c .before .before .before .before .before .is-empty .ensures) (c .before .before .before .before .before .before .claims-of .ensures) (f .0) in
-    (h .0, (f .0, (f .1, (h .1 .1, sym e ∙ c .before .before .before .before .if1 .left))))
+    (h .0, (f .0, (f .1, h .1 .1)))
 
 returns-2 : tie.Need-returns-2
 returns-2 c =

@@ -18,7 +18,7 @@ facts-at-requires c κs = (c .before .before .before .before .before .pre .0 .ea
 returns : tie.Need-returns
 returns c =
     let s = c .before .before .before .before .before .before .before .before .before .before in
-    starts-as (s .args .rows .now) (s .args .at .now) 0 (s .args .n) (s .pre .1) false (ap not (sym (c .if1 .taken) ∙ c .before .all-have-values .ensures ∙ ap (λ (f : Facts). nonEmpty (f .ranges)) (c .before .before .before .before .facts-at .ensures .0)))
+    starts-as (s .args .rows .now) (s .args .at .now) 0 (s .args .n) (s .pre .1) false (ap not (sym (c .if1 .taken) ∙ c .before .is-possible .ensures ∙ ap (λ (f : Facts). nonEmpty (f .ranges)) (c .before .before .before .before .facts-at .ensures .0)))
 
 line-of-requires : tie.Need-line-of-requires
 line-of-requires c κs = let q = c .before .before .before .before .before .before .before .before .before .before .pre .0 .each 0 (omega arith) in (q .places, q .few)
@@ -27,7 +27,7 @@ returns-2 : tie.Need-returns-2
 returns-2 c =
     let s = c .before .before .before .before .before .before .before .before .before .before .before in
     ap (λ (l : ℕ). refused (EmptyStart l)) (c .line-of .ensures)
-    ∙ starts-as (s .args .rows .now) (s .args .at .now) 0 (s .args .n) (s .pre .1) true (ap not (sym (c .before .if1 .left) ∙ c .before .before .all-have-values .ensures ∙ ap (λ (f : Facts). nonEmpty (f .ranges)) (c .before .before .before .before .before .facts-at .ensures .0)))
+    ∙ starts-as (s .args .rows .now) (s .args .at .now) 0 (s .args .n) (s .pre .1) true (ap not (sym (c .before .if1 .left) ∙ c .before .before .is-possible .ensures ∙ ap (λ (f : Facts). nonEmpty (f .ranges)) (c .before .before .before .before .before .facts-at .ensures .0)))
 
 pub start-judged-spec : {M : Type 1} → statement M
 start-judged-spec =

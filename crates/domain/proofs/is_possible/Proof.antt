@@ -1,20 +1,27 @@
 -- After v turns it is the test of the first v variables. Assumes nothing.
 use borrow.Author.Needs.{needs}
 use mathlib.Core.Path.{_≡_, refl, ap, sym, _∙_}
+use mathlib.Core.Bool.{Bool}
+use mathlib.Core.List.{List}
+use lib.Dec.{leb}
 use Rattle.facts.specs.Known.{rangesOf}
-use Prim.Native.Nat.{_-_, _≤_}
+use Prim.Native.Nat.{ℕ, _-_, _≤_}
 use native.Mathlib.Numerals.{add-one}
 use native.Mathlib.Omega.{arith}
 use lib.ListN.{length}
 use Rattle.model.specs.Limits as Limits
 use Rattle.model.specs.Lists.{everyBelow}
-use Rattle.model.specs.Facts.{hasValue, nonEmpty}
+use Rattle.model.specs.Facts.{lo, hi, nonEmpty}
 use Rattle.facts.proofs.ArrayContents.{low-held, high-held}
-use Rattle.domain.proofs.all_have_values.Statement.{statement}
-use Rattle.domain.proofs.all_have_values.Tie as tie
+use Rattle.domain.proofs.is_possible.Statement.{statement}
+use Rattle.domain.proofs.is_possible.Tie as tie
+
+-- the range of a variable has a value
+abbrev hasValue : List ℕ → List ℕ → ℕ → Bool
+hasValue low high v = leb (lo (rangesOf low high) v) (hi (rangesOf low high) v)
 
 abbrev Inv-loop : tie.InvT-loop
-Inv-loop low high every₀ v₀ every v = (v ≤ Limits.variables) × (every ≡ everyBelow (hasValue (rangesOf low high)) v)
+Inv-loop low high every₀ v₀ every v = (v ≤ Limits.variables) × (every ≡ everyBelow (hasValue low high) v)
 
 abbrev μ-loop : tie.MeasureT-loop
 μ-loop low high every₀ v₀ every v = Limits.variables - v
@@ -37,10 +44,10 @@ unfolding nonEmpty
 returns c =
     let a = c .before .before .args in
     let done : c .before .loop .v ≡ Limits.variables = omega arith in
-    c .before .loop .inv .1 ∙ ap (everyBelow (hasValue (rangesOf (a .low .now) (a .high .now)))) done
+    c .before .loop .inv .1 ∙ ap (everyBelow (hasValue (a .low .now) (a .high .now))) done
 
-pub all-have-values-spec : {M : Type 1} → statement M
-all-have-values-spec =
+pub is-possible-spec : {M : Type 1} → statement M
+is-possible-spec =
     tie.close
     (tie.spec
     Inv-loop
