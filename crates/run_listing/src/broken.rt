@@ -15,7 +15,7 @@ ghost use lib.ListN.{length};
 ghost use Rattle.io.specs.Counts.{Counts};
 
 // Writes the name of the new file beside argument i, and answers its length.
-pub fn new_name_of(i: usize, name: &mut [u8]) -> usize
+pub(crate) fn new_name_of(i: usize, name: &mut [u8]) -> usize
     requires { ⌜ length (now name) ≡ 4096 ⌝ }
     ensures { λ r. ⌜ Counts r (now (name .exit)) ⌝ }
 {

@@ -30,7 +30,7 @@ fn is_whole(more: isize, n: usize, size: usize) -> bool
 }
 
 // Closes a file of which n bytes were read, and says what is wrong where these are not the whole of it.
-pub fn is_read(fd: i32, path: &[u8], n: usize, size: usize) -> bool {
+pub(crate) fn is_read(fd: i32, path: &[u8], n: usize, size: usize) -> bool {
     let mut rest = [0u8; 1];
     let more = libc::read(fd, &mut rest);
     libc::close(fd);
@@ -46,7 +46,7 @@ pub fn is_read(fd: i32, path: &[u8], n: usize, size: usize) -> bool {
 }
 
 // Opens a file for reading, or says why it cannot be.
-pub fn open(path: &[u8]) -> i32 {
+pub(crate) fn open(path: &[u8]) -> i32 {
     if path.len() == 0 {
         say(b"an argument", b"it is empty or too long");
         return -1;
@@ -64,7 +64,7 @@ fn is_missing(error: i32) -> bool {
 }
 
 // Whether there is a file of this name.
-pub fn is_there(path: &[u8]) -> bool {
+pub(crate) fn is_there(path: &[u8]) -> bool {
     if path.len() == 0 {
         return false;
     }
@@ -85,7 +85,7 @@ fn open_claimed(path: &[u8], prepared: bool) -> i32 {
 }
 
 // Claims a new file, or says why it cannot be claimed.
-pub fn is_claimed(path: &[u8], prepared: bool) -> bool {
+pub(crate) fn is_claimed(path: &[u8], prepared: bool) -> bool {
     if path.len() == 0 {
         say(b"RESULTS or STATE", b"its path is empty or too long");
         return false;
@@ -113,7 +113,7 @@ fn sync(folder: &[u8]) {
 }
 
 // Syncs the folder of a file, so that a name given or taken away there lasts.
-pub fn sync_folder(path: &[u8]) {
+pub(crate) fn sync_folder(path: &[u8]) {
     let n = folder_length(path);
     if n == 0 {
         sync(b".");
@@ -141,7 +141,7 @@ fn is_written(path: &[u8], bytes: &[u8]) -> bool {
 }
 
 // Gives a new file its name, or says why it cannot be.
-pub fn is_renamed(from: &[u8], to: &[u8]) -> bool {
+pub(crate) fn is_renamed(from: &[u8], to: &[u8]) -> bool {
     if os::rename(from, to) == 0 {
         sync_folder(to);
         return true;
@@ -151,7 +151,7 @@ pub fn is_renamed(from: &[u8], to: &[u8]) -> bool {
 }
 
 // Whether no file of this name is there any more, or says why it could not be removed.
-pub fn is_removed(path: &[u8]) -> bool {
+pub(crate) fn is_removed(path: &[u8]) -> bool {
     if os::unlink(path) == 0 {
         return true;
     }
@@ -163,7 +163,7 @@ pub fn is_removed(path: &[u8]) -> bool {
 }
 
 // Removes the new files of a run that has changed nothing: the state's first, so that it never stands alone.
-pub fn are_removed(results_new: &[u8], state_new: &[u8]) -> bool {
+pub(crate) fn are_removed(results_new: &[u8], state_new: &[u8]) -> bool {
     if !is_removed(state_new) {
         return false;
     }
