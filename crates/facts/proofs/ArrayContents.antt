@@ -68,12 +68,13 @@ pub stripes-more : (rows : List ℕ) (n : ℕ) → stripesOf rows (n + 1) ≡ st
 unfolding stripesOf
 stripes-more rows n = rw (add-one n) refl
 
--- a row written after the first n
+-- as many stripes as rows
 pub stripes-count : (rows : List ℕ) (n : ℕ) → length (stripesOf rows n) ≡ n
 unfolding stripesOf
 stripes-count rows zero = refl
 stripes-count rows (suc n) = length-append (stripesOf rows n) _ ∙ ap (λ (m : ℕ). m + 1) (stripes-count rows n) ∙ add-one n
 
+-- a row written after the first n
 pub stripes-written : (rows : List ℕ) (n : ℕ) (s : Stripe) → SizedRows rows → n < edgeStripes → stripesOf (withStripe rows n s) (n + 1) ≡ stripesOf rows n ++ (s ∷ [])
 stripes-written rows n s sized inside =
     stripes-more (withStripe rows n s) n

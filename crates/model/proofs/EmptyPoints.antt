@@ -40,10 +40,10 @@ module _ (l : List ℕ) where
       ps : List Point
       ps = pointsOf (listingOf l)
 
-      Kept : Ran → Type 0
-      Kept r = (turnedBack (r .outcome .report) ≡ false → (j : ℕ) → j ≤ r .outcome .steps → AwayFromEmpty ps (configOf s (k .tables)) j) × (length (r .outcome .state .registers) ≡ registers)
+      Away : Ran → Type 0
+      Away r = (turnedBack (r .outcome .report) ≡ false → (j : ℕ) → j ≤ r .outcome .steps → AwayFromEmpty ps (configOf s (k .tables)) j) × (length (r .outcome .state .registers) ≡ registers)
 
-      go : (j : Judgement) → runJudged l s (sizesOf (k .tables)) ≡ j → Kept (ranFrom j ps s (k .tables) (k .budget))
+      go : (j : Judgement) → runJudged l s (sizesOf (k .tables)) ≡ j → Away (ranFrom j ps s (k .tables) (k .budget))
       go (refused r) e = (λ b. absurd (false≢true (sym b)), sixteen)
       go Accepted e =
           let (passes, good) = accepted-good l s (k .tables) sixteen bytes e in (

@@ -509,7 +509,7 @@ lessThen i = on 3 (Turn 1 ∷ some) (Subw 1 1 (number 1)) ∷ on 4 [] i ∷ on 5
 abbrev turn : String → String → List ℕ
 turn f1 f2 = row "TURN" f1 f2 "" "" "" ""
 
--- behind a STOP, a point where variable v lies from l to m, with this instruction, and after it a point that claims 9 for register 2
+-- behind a STOP, a point where variable v lies from l to m, with this instruction, and after it a point that claims at least 9 of register 2
 abbrev unreached : String → String → String → List ℕ → List ℕ
 unreached v l m i =
     rows
@@ -521,16 +521,19 @@ unreached v l m i =
     ∷ row "STOP" "" "" "" "" "" ""
     ∷ [])
 
--- instructions of such a point: a divisor that may be 0, a load, a store, and a COPY into register 2
+-- an instruction of such a point: a divisor that may be 0
 abbrev divisor : List ℕ
 divisor = row "DIVM" "2" "0" "3" "" "0" "4"
 
+-- a load that may leave the trays
 abbrev access : List ℕ
 access = row "LOAD" "2" "4" "0" "1" "0" "0"
 
+-- a store that may leave the results
 abbrev store : List ℕ
 store = row "STOR" "2" "1" "" "1" "0" "0"
 
+-- a COPY into register 2 that does not show the claim
 abbrev copy : List ℕ
 copy = row "COPY" "2" "0" "" "" "" ""
 
