@@ -8,9 +8,10 @@ use Rattle.model.specs.declared.answers.Refusal.{Refusal}
 use Rattle.model.specs.declared.answers.Judgement.{Judgement}
 use Rattle.model.specs.declared.answers.Judgement.the-variants.{Accepted, Refused as refused}
 use Rattle.model.specs.declared.answers.Verdict.the-variants.{Passed, Refused as refusedVerdict}
+use Rattle.model.specs.Limits.{today}
 use Rattle.model.specs.Listing.{readAs, refusedListing, listingOf, pointsOf}
 use Rattle.model.specs.Listing as model
-use Rattle.model.specs.Check.{pointsJudged, listingJudged, verdictFrom, verdictOf, check}
+use Rattle.model.specs.Check.{pointsJudged, listingJudged, verdictFrom, verdictWithin, check, checkWithin}
 use Rattle.reader.specs.declared.listing.Listing.{Listing}
 use Rattle.reader.specs.Points.{pointsIn}
 use Rattle.reader.specs.Listing.{Stands}
@@ -34,21 +35,21 @@ module _ (s : List ℕ) (l : Listing) (rows at : List ℕ) (stands : Stands (lis
       go (refusedListing x) h = h
 
   -- a listing that is read is judged by its points
-  pub judged-read : l .judgement ≡ Accepted → (j : Judgement) → j ≡ pointsJudged (pointsIn rows at (l .count)) (l .count) → Judged s (record { judgement = j; count = l .count }) rows at
+  pub judged-read : l .judgement ≡ Accepted → (j : Judgement) → j ≡ pointsJudged today (pointsIn rows at (l .count)) (l .count) → Judged s (record { judgement = j; count = l .count }) rows at
   judged-read e j k =
       let r = is-read e in
       record {
-        judgement = k ∙ ap (pointsJudged (pointsIn rows at (l .count))) (sym (points-count rows at (l .count))) ∙ sym (ap listingJudged (r .points));
+        judgement = k ∙ ap (pointsJudged today (pointsIn rows at (l .count))) (sym (points-count rows at (l .count))) ∙ sym (ap listingJudged (r .points));
         held = λ z. r;
       }
 
 -- the answer from the judgement
-answered : (x : model.Listing) → verdictOf x ≡ verdictFrom (length (pointsOf x)) (listingJudged x)
+answered : (x : model.Listing) → verdictWithin today x ≡ verdictFrom (length (pointsOf x)) (listingJudged x)
 answered (readAs ps) = refl
 answered (refusedListing r) = refl
 
 check-is : (s : List ℕ) → check s ≡ verdictFrom (length (pointsOf (listingOf s))) (listingJudged (listingOf s))
-unfolding check
+unfolding checkWithin
 check-is s = answered (listingOf s)
 
 module _ (s : List ℕ) (l : Listing) (rows at : List ℕ) (judged : Judged s l rows at) where

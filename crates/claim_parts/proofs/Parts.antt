@@ -13,8 +13,8 @@ use Rattle.model.specs.declared.answers.Refusal.the-variants.{ListingLength, No
 use Rattle.model.specs.declared.answers.Judgement.{Judgement}
 use Rattle.model.specs.declared.answers.Judgement.the-variants.{Accepted, Refused as refused}
 use Rattle.model.specs.declared.answers.ClaimPart.{ClaimPart}
-use Rattle.model.specs.Limits.{lineBytes}
-use Rattle.model.specs.Listing.{Point, pointAt, inOrder, Reading, going, refusedReading, afterLine, readTo, wholeJudged, readAs, refusedListing, listingOr, listingFrom, goodLength, listingOf, pointsOf, claimLinesJudged, claimLines, partJudged, claimPart}
+use Rattle.model.specs.Limits.{lineBytes, today}
+use Rattle.model.specs.Listing.{Point, pointAt, inOrder, Reading, going, refusedReading, afterLine, readTo, wholeJudged, readAs, refusedListing, listingOr, listingFrom, goodLength, listingOf, pointsOf, claimLinesJudged, claimLines, partJudged, claimPart, listingWithin}
 use Rattle.model.specs.Listing as model
 use Rattle.model.proofs.Tests.{cond-cases}
 use Rattle.model.proofs.Lists.{All, all-snoc, all-at}
@@ -45,10 +45,10 @@ inside-more n (going ps cs) (refusedLine r) h = tt
 inside-more n (going ps cs) (claimLine c) h = cond-cases (ReadInside (suc n)) (inOrder n cs c) (going ps (cs ++ (c ∷ []))) (refusedReading (ClaimOrder (n + 1))) (λ e. later n ps h) (λ e. tt)
 inside-more n (going ps cs) (instructionLine i) h = all-snoc (Inside (suc n)) ps _ (later n ps h) (omega arith)
 
-read-inside : (s : List ℕ) (n : ℕ) → ReadInside n (readTo s n)
+read-inside : (s : List ℕ) (n : ℕ) → ReadInside n (readTo today s n)
 unfolding readTo
 read-inside s zero = tt
-read-inside s (suc n) = inside-more n (readTo s n) (lineRead s n) (read-inside s n)
+read-inside s (suc n) = inside-more n (readTo today s n) (lineRead s n) (read-inside s n)
 
 abbrev AllInside : ℕ → model.Listing → Type 0
 AllInside n (readAs ps) = All (Inside n) ps
@@ -56,9 +56,9 @@ AllInside n (refusedListing r) = Unit {0}
 
 -- every point of a listing stands on one of its lines
 all-inside : (s : List ℕ) → AllInside (length s / lineBytes) (listingOf s)
-unfolding listingOf
+unfolding listingWithin
 all-inside s =
-    cond-cases (AllInside n) (goodLength (length s)) (listingFrom n (readTo s n)) (refusedListing ListingLength) (λ e. from (readTo s n) (read-inside s n)) (λ e. tt)
+    cond-cases (AllInside n) (goodLength (length s)) (listingFrom n (readTo today s n)) (refusedListing ListingLength) (λ e. from (readTo today s n) (read-inside s n)) (λ e. tt)
   where
     n : ℕ
     n = length s / lineBytes

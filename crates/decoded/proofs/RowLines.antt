@@ -20,7 +20,7 @@ use Rattle.model.specs.declared.machine.Instruction.the-variants.{Setc, Addw, S
 use Rattle.model.specs.declared.claims.Claim.the-variants.{Leas, Most, Strp, Turn}
 use Rattle.model.specs.declared.claims.Line.the-variants.{Refused as refusedLine, Claim as claimLine, Instruction as instructionLine}
 use Rattle.model.specs.declared.answers.Refusal.the-variants.{ListingLength}
-use Rattle.model.specs.Limits.{MAX}
+use Rattle.model.specs.Limits.{MAX, today}
 use Rattle.model.specs.Text.{valueIn}
 use Rattle.model.specs.Words.{fieldsOf, shaped}
 use Rattle.model.specs.Lines as Lines
@@ -75,7 +75,7 @@ module _ (fs : List Field) where
   operand-is : (w : Word) → inShape w fs ≡ true → kindAt w 5 ≡ Plain anOperand → OperandLimited (operandFrom (F5 fs) (F6 fs)) → operandIn (F5 fs) (plusIn (fieldAt fs 5)) ≡ operandFrom (F5 fs) (F6 fs)
   operand-is w e k h = ap (operandIn (F5 fs)) (sixth-is w e anOperand k) ∙ operand-same (F5 fs) (F6 fs) h
 
-  pub line-same : (w : Word) → inShape w fs ≡ true → inLimits w fs ≡ true → registersDiffer w fs ≡ true → lineOfRow (rowOf w fs) ≡ Lines.lineFrom w fs
+  pub line-same : (w : Word) → inShape w fs ≡ true → inLimits today w fs ≡ true → registersDiffer w fs ≡ true → lineOfRow (rowOf w fs) ≡ Lines.lineFrom w fs
   unfolding lineOfRow instructionFrom fieldsOf
   line-same STOP s l d = refl
   line-same SETC s l d = ap (λ (n : ℕ). instructionLine (Setc (F1 fs) n)) (ap (λ (n : ℕ). n % Limits.modulus) (sixth-is SETC s aNumber refl) ∙ word-same (F6 fs) (line-limited fs SETC l d .1))

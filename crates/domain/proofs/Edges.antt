@@ -8,7 +8,7 @@ use lib.ListN.{length, getD, set, length-set, List·getD-eq-default}
 use Rattle.model.specs.declared.machine.Edge.{Edge}
 use Rattle.model.specs.declared.machine.Instruction.{Instruction}
 use Rattle.model.specs.declared.claims.Range.{Range}
-use Rattle.model.specs.Limits.{variables, MAX}
+use Rattle.model.specs.Limits.{variables, MAX, today}
 use Rattle.model.specs.Transfer.{rangesAlong, stripesAlong, factsAlong}
 use Rattle.model.specs.Limited.{Limited}
 use Rattle.facts.specs.Ends.{SizedEnds}
@@ -54,7 +54,7 @@ edge-highs e i low high limits ends = along-high e i (rangesOf low high) limits 
 
 -- ranges and stripes together
 pub edge-known : (e : Edge) (i : Instruction) (low high stripes : List ℕ) (n : ℕ) (low' high' stripes' : List ℕ) (r : ℕ) →
-    rangesOf low' high' ≡ rangesAlong e i (rangesOf low high) → stripesOf stripes' r ≡ stripesAlong e i (rangesOf low high) (stripesOf stripes n) →
-    known low' high' stripes' r ≡ factsAlong e i (known low high stripes n)
+    rangesOf low' high' ≡ rangesAlong e i (rangesOf low high) → stripesOf stripes' r ≡ stripesAlong today e i (rangesOf low high) (stripesOf stripes n) →
+    known low' high' stripes' r ≡ factsAlong today e i (known low high stripes n)
 unfolding factsAlong
 edge-known e i low high stripes n low' high' stripes' r p q = rw (p, q)

@@ -17,7 +17,7 @@ ghost use mathlib.Core.Path.{_≡_};
 ghost use mathlib.Core.List.{[], _∷_};
 ghost use Prim.Native.Nat.{_+_, _≤_};
 ghost use lib.ListN.{length};
-ghost use Rattle.model.specs.Limits.{variables, greatestStripes};
+ghost use Rattle.model.specs.Limits.{variables, greatestStripes, today};
 ghost use Rattle.model.specs.Facts as Model;
 ghost use Rattle.model.specs.Facts.{withClaim, nonEmpty};
 ghost use Rattle.model.specs.Listing.{stripesAmong};
@@ -87,7 +87,7 @@ pub fn along<'a>(
     requires { ⌜ AtPoint (now low) (now high) (now stripes) n ⌝ }
     requires { ⌜ Limited i ⌝ }
     requires { ⌜ SizedRows (now «edge_stripes») ⌝ }
-    ensures { λ r. ⌜ known (now (low .exit)) (now (high .exit)) (now («edge_stripes» .exit)) r ≡ factsAlong e i (known (now (low .entry)) (now (high .entry)) (now (stripes .entry)) n) ⌝ }
+    ensures { λ r. ⌜ known (now (low .exit)) (now (high .exit)) (now («edge_stripes» .exit)) r ≡ factsAlong today e i (known (now (low .entry)) (now (high .entry)) (now (stripes .entry)) n) ⌝ }
     ensures { λ r. ⌜ AlongEdge (now (low .exit)) (now (high .exit)) (now («edge_stripes» .exit)) r ⌝ }
 {
     let c = changes_along(e, i, low, high);

@@ -20,7 +20,7 @@ use Rattle.model.specs.declared.machine.Edge.{Edge}
 use Rattle.model.specs.declared.machine.Edge.the-variants.{Next, Target}
 use Rattle.model.specs.declared.claims.Range.{Range}
 use Rattle.model.specs.declared.claims.Stripe.{Stripe}
-use Rattle.model.specs.Limits.{MAX}
+use Rattle.model.specs.Limits.{MAX, today}
 use Rattle.model.specs.Facts.{between, exactly, registerRange, rangeOf, hi}
 use Rattle.model.specs.Machine.{bytesOf}
 use Rattle.model.specs.Transfer.{nothing, operandRange, sumFits, sumRange, differenceFits, differenceRange, productFits, productRange, nearestRange, quotientRange, remainderRange, below, atLeast, atMost, overlap, without, hasOneValue, changed, operandChanged, rangesAlong, stripesAlong}
@@ -51,12 +51,12 @@ module _ (i t : ℕ) (o : Operand) where
   matched-ranges Next rs = refl
   matched-ranges (Target u) rs = refl
 
-  pub ordered-stripes : (e : Edge) (rs : List Range) (ss : List Stripe) → orderedStripes e i o ss ≡ stripesAlong e (Bltu i t o) rs ss
+  pub ordered-stripes : (e : Edge) (rs : List Range) (ss : List Stripe) → orderedStripes e i o ss ≡ stripesAlong today e (Bltu i t o) rs ss
   unfolding stripesAlong
   ordered-stripes Next rs ss = refl
   ordered-stripes (Target u) rs ss = refl
 
-  pub matched-stripes : (e : Edge) (rs : List Range) (ss : List Stripe) → matchedStripes e i o ss ≡ stripesAlong e (Bequ i t o) rs ss
+  pub matched-stripes : (e : Edge) (rs : List Range) (ss : List Stripe) → matchedStripes e i o ss ≡ stripesAlong today e (Bequ i t o) rs ss
   unfolding stripesAlong
   matched-stripes Next rs ss = refl
   matched-stripes (Target u) rs ss = refl

@@ -5,7 +5,7 @@ use mathlib.Core.List.{List, [], _∷_, _++_, map, append-nil, append-assoc}
 use Prim.Native.Nat.{ℕ, _+_, _*_, _<_}
 use native.Mathlib.Omega.{arith}
 use Rattle.model.specs.declared.claims.Stripe.{Stripe}
-use Rattle.model.specs.Limits.{greatestBound}
+use Rattle.model.specs.Limits.{greatestBound, today}
 use Rattle.model.specs.Lists.{kept}
 use Rattle.model.specs.Transfer.{names, dropped, shifted, boundInLimits, allShifted}
 use Rattle.facts.specs.StripeRows.{SizedRows, stripeAt}
@@ -55,13 +55,13 @@ module _ (s : Stripe) where
       go false h = unnamed-one e h
 
   module _ (d up down : ℕ) (t : Stripe) (e : t ≡ shifted d up down s) where
-    pub shifted-one : boundInLimits t ≡ true → allShifted d up down (s ∷ []) ≡ t ∷ []
+    pub shifted-one : boundInLimits today t ≡ true → allShifted today d up down (s ∷ []) ≡ t ∷ []
     unfolding kept
-    shifted-one h = ap (λ (u : Stripe). cond (boundInLimits u) (u ∷ []) []) (sym e) ∙ ap (λ (b : Bool). cond b (t ∷ []) []) h
+    shifted-one h = ap (λ (u : Stripe). cond (boundInLimits today u) (u ∷ []) []) (sym e) ∙ ap (λ (b : Bool). cond b (t ∷ []) []) h
 
-    pub shifted-away : boundInLimits t ≡ false → allShifted d up down (s ∷ []) ≡ []
+    pub shifted-away : boundInLimits today t ≡ false → allShifted today d up down (s ∷ []) ≡ []
     unfolding kept
-    shifted-away h = ap (λ (u : Stripe). cond (boundInLimits u) (u ∷ []) []) (sym e) ∙ ap (λ (b : Bool). cond b (t ∷ []) []) h
+    shifted-away h = ap (λ (u : Stripe). cond (boundInLimits today u) (u ∷ []) []) (sym e) ∙ ap (λ (b : Bool). cond b (t ∷ []) []) h
 
 -- of two lists
 pub kept-both : (p : Stripe → Bool) (xs ys : List Stripe) → kept p (xs ++ ys) ≡ kept p xs ++ kept p ys
@@ -80,7 +80,7 @@ map-both f (x ∷ xs) ys = ap (λ (l : List Stripe). f x ∷ l) (map-both f xs y
 keeps-both : (k : KeptStripes) (xs ys : List Stripe) → keptOf k (xs ++ ys) ≡ keptOf k xs ++ keptOf k ys
 keeps-both All xs ys = refl
 keeps-both (Without d) xs ys = kept-both _ xs ys
-keeps-both (Shifted d up down) xs ys = ap (kept boundInLimits) (map-both (shifted d up down) xs ys) ∙ kept-both boundInLimits (map (shifted d up down) xs) (map (shifted d up down) ys)
+keeps-both (Shifted d up down) xs ys = ap (kept (boundInLimits today)) (map-both (shifted d up down) xs ys) ∙ kept-both (boundInLimits today) (map (shifted d up down) xs) (map (shifted d up down) ys)
 keeps-both (WithoutBoth d e) xs ys = ap (dropped e) (kept-both _ xs ys) ∙ kept-both _ (dropped d xs) (dropped d ys)
 
 -- of the first stripes

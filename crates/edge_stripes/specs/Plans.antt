@@ -3,7 +3,7 @@ use mathlib.Core.Path.{_≡_}
 use mathlib.Core.List.{List, _∷_, _++_}
 use Prim.Native.Nat.{ℕ, _≤_}
 use Rattle.model.specs.declared.claims.Stripe.{Stripe}
-use Rattle.model.specs.Limits.{MAX, greatestBound}
+use Rattle.model.specs.Limits.{MAX, greatestBound, today}
 use Rattle.model.specs.Transfer.{dropped, allShifted}
 use Rattle.facts.specs.StripeRows.{SizedRows}
 use Rattle.edge_stripes.specs.declared.KeptStripes.{KeptStripes}
@@ -17,7 +17,7 @@ use Rattle.facts.specs.Known.{stripesOf, Small}
 abbrev pub keptOf : KeptStripes → List Stripe → List Stripe
 keptOf All ss = ss
 keptOf (Without d) ss = dropped d ss
-keptOf (Shifted d up down) ss = allShifted d up down ss
+keptOf (Shifted d up down) ss = allShifted today d up down ss
 keptOf (WithoutBoth d e) ss = dropped e (dropped d ss)
 
 -- what is added, in front of others

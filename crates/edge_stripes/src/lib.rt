@@ -21,7 +21,7 @@ ghost use Prim.Native.Nat.{_+_, _<_, _≤_};
 ghost use lib.Dec.{eqb};
 ghost use Rattle.model.specs.declared.claims.Stripe.{Stripe};
 ghost use Rattle.model.specs.declared.machine.Operand.the-variants.{Number};
-ghost use Rattle.model.specs.Limits.{variables, MAX, greatestBound};
+ghost use Rattle.model.specs.Limits.{variables, MAX, greatestBound, today};
 ghost use Rattle.model.specs.Transfer as Model;
 ghost use Rattle.model.specs.Transfer.{boundInLimits, ifIs, byNumber, sumStripes, differenceStripes, productStripes, lessStripes, notLessStripes, equalStripes, stripesAlong};
 ghost use Rattle.model.specs.Limited.{OperandLimited, ArithmeticLimited, Limited};
@@ -100,7 +100,7 @@ fn shifted(s: Stripe, d: u8, up: u64, down: u64) -> Stripe
 // Whether the bound lies within its limits.
 fn bound_in_limits(s: Stripe) -> bool
     requires { ⌜ Small greatestPart s ⌝ }
-    ensures { λ r. ⌜ r ≡ boundInLimits s ⌝ }
+    ensures { λ r. ⌜ r ≡ boundInLimits today s ⌝ }
 {
     (s.plus <= s.minus + GREATEST_BOUND) & (s.minus <= s.plus + GREATEST_BOUND)
 }
@@ -190,7 +190,7 @@ fn two_and_dropped(s: Stripe, t: Stripe, d: usize) -> Plan
 fn all_shifted(d: usize, up: u64, down: u64) -> Plan
     requires { ⌜ d < variables ⌝ }
     requires { ⌜ (up ≤ MAX) × (down ≤ MAX) ⌝ }
-    ensures { λ p. ⌜ Does p (λ (ss : List Stripe). Model.allShifted d up down ss) ⌝ }
+    ensures { λ p. ⌜ Does p (λ (ss : List Stripe). Model.allShifted today d up down ss) ⌝ }
 {
     Plan {
         kept: KeptStripes::Shifted {
@@ -236,7 +236,7 @@ fn apart(u: usize, v: usize, plus: u64, minus: u64) -> Stripe
 fn by_number(d: usize, i: usize, up: u64, down: u64) -> Plan
     requires { ⌜ (d < variables) × (i < variables) ⌝ }
     requires { ⌜ (up ≤ MAX) × (down ≤ MAX) ⌝ }
-    ensures { λ p. ⌜ Does p (λ (ss : List Stripe). byNumber d i up down ss) ⌝ }
+    ensures { λ p. ⌜ Does p (λ (ss : List Stripe). byNumber today d i up down ss) ⌝ }
 {
     if d == i {
         return all_shifted(d, up, down);
@@ -258,7 +258,7 @@ fn copy_stripes(d: usize, i: usize) -> Plan
 // ADDW where nothing wraps: by a number, or d - (i + o) >= 0.
 fn sum_stripes(d: usize, i: usize, o: Operand) -> Plan
     requires { ⌜ ArithmeticLimited d i o ⌝ }
-    ensures { λ p. ⌜ Does p (λ (ss : List Stripe). sumStripes d i o ss) ⌝ }
+    ensures { λ p. ⌜ Does p (λ (ss : List Stripe). sumStripes today d i o ss) ⌝ }
 {
     match o {
         Operand::Variable(v) => {
@@ -274,7 +274,7 @@ fn sum_stripes(d: usize, i: usize, o: Operand) -> Plan
 // SUBW where nothing wraps: by a number, or i - (d + o) >= 0.
 fn difference_stripes(d: usize, i: usize, o: Operand) -> Plan
     requires { ⌜ ArithmeticLimited d i o ⌝ }
-    ensures { λ p. ⌜ Does p (λ (ss : List Stripe). differenceStripes d i o ss) ⌝ }
+    ensures { λ p. ⌜ Does p (λ (ss : List Stripe). differenceStripes today d i o ss) ⌝ }
 {
     match o {
         Operand::Variable(v) => {
@@ -290,7 +290,7 @@ fn difference_stripes(d: usize, i: usize, o: Operand) -> Plan
 // MULW by a number where nothing wraps: d - c * i >= 0, if c can be a scale.
 fn scaled_stripes(d: usize, i: usize, c: u32) -> Plan
     requires { ⌜ (d < variables) × (i < variables) ⌝ }
-    ensures { λ p. ⌜ Does p (λ (ss : List Stripe). productStripes d i (Number c) ss) ⌝ }
+    ensures { λ p. ⌜ Does p (λ (ss : List Stripe). productStripes today d i (Number c) ss) ⌝ }
 {
     if (1 <= c) & (c <= GREATEST_SCALE as u32) & (d != i) {
         return one_and_dropped(stripe(d, c as u8, i, BLANK_VARIABLE), d);
@@ -301,7 +301,7 @@ fn scaled_stripes(d: usize, i: usize, c: u32) -> Plan
 // MULW where nothing wraps.
 fn product_stripes(d: usize, i: usize, o: Operand) -> Plan
     requires { ⌜ ArithmeticLimited d i o ⌝ }
-    ensures { λ p. ⌜ Does p (λ (ss : List Stripe). productStripes d i o ss) ⌝ }
+    ensures { λ p. ⌜ Does p (λ (ss : List Stripe). productStripes today d i o ss) ⌝ }
 {
     match o {
         Operand::Variable(v) => dropped(d),
@@ -384,7 +384,7 @@ pub fn plan_along<'a>(
 ) -> Plan
     requires { ⌜ Ends (now low) (now high) ⌝ }
     requires { ⌜ Limited i ⌝ }
-    ensures { λ p. ⌜ Does p (λ (ss : List Stripe). stripesAlong e i (rangesOf (now (low .entry)) (now (high .entry))) ss) ⌝ }
+    ensures { λ p. ⌜ Does p (λ (ss : List Stripe). stripesAlong today e i (rangesOf (now (low .entry)) (now (high .entry))) ss) ⌝ }
 {
     match i {
         Instruction::Stop => all(),

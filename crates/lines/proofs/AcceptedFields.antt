@@ -9,11 +9,12 @@ use Rattle.model.specs.declared.text.Word.{Word}
 use Rattle.model.specs.declared.text.FoundWord.the-variants.{Known}
 use Rattle.model.specs.declared.answers.Refusal.the-variants.{FieldShape, NumberLimits, SameRegister}
 use Rattle.model.specs.declared.answers.Judgement.the-variants.{Accepted, Refused}
+use Rattle.model.specs.Limits.{today}
 use Rattle.model.specs.Lines.{inShape, inLimits, registersDiffer, judged}
 
-pub accepted : (place : ℕ) (w : Word) (fs : List Field) → judged place (Known w) fs ≡ Accepted → (inShape w fs ≡ true) × (inLimits w fs ≡ true) × (registersDiffer w fs ≡ true)
+pub accepted : (place : ℕ) (w : Word) (fs : List Field) → judged today place (Known w) fs ≡ Accepted → (inShape w fs ≡ true) × (inLimits today w fs ≡ true) × (registersDiffer w fs ≡ true)
 unfolding judged
-accepted place w fs e = go (inShape w fs) (inLimits w fs) (registersDiffer w fs) e
+accepted place w fs e = go (inShape w fs) (inLimits today w fs) (registersDiffer w fs) e
   where
     go : (a b c : Bool) → cond a (cond b (cond c Accepted (Refused (SameRegister place))) (Refused (NumberLimits place))) (Refused (FieldShape place)) ≡ Accepted
         → (a ≡ true) × (b ≡ true) × (c ≡ true)

@@ -16,6 +16,7 @@ use Rattle.model.specs.declared.text.Word.{Word}
 use Rattle.model.specs.declared.text.Word.the-variants.{Divm}
 use Rattle.model.specs.declared.text.FoundWord.the-variants.{Known}
 use Rattle.model.specs.declared.answers.Judgement.{Judgement}
+use Rattle.model.specs.Limits.{today}
 use Rattle.model.specs.Lists.{everyBelow}
 use Rattle.model.specs.Text.{valueIn}
 use Rattle.model.specs.Words.{fieldsOf, shaped, allowed, within}
@@ -129,13 +130,13 @@ signed-shape (Signed c) f1 f5 (Negative v) = go (eqb v 0)
 signed-shape (Signed c) f1 f5 Misshapen = refl
 
 -- a field in shape is within its limits where the number that is kept of it is allowed
-field-allowed : (k : Kind) (f1 f5 : ℕ) (f : Field) (x : KeptField) → shaped k f ≡ true → eqb (x .shape) BLANK ≡ shaped Empty f → x .number ≡ valueIn f → askedOf k f1 f5 x .allowed ≡ allowed k f1 f5 f
+field-allowed : (k : Kind) (f1 f5 : ℕ) (f : Field) (x : KeptField) → shaped k f ≡ true → eqb (x .shape) BLANK ≡ shaped Empty f → x .number ≡ valueIn f → askedOf k f1 f5 x .allowed ≡ allowed today k f1 f5 f
 unfolding askedOf allowed
 field-allowed Empty f1 f5 f x e b n = refl
 field-allowed (Plain c) f1 f5 f x e b n = rw n
 field-allowed (Optional c) f1 f5 f x e b n = rw (b, n) (go (shaped Empty f))
   where
-    go : (t : Bool) → cond t (ask BLANK true) (ask NUMBER (within c f1 f5 (valueIn f))) .allowed ≡ (t || within c f1 f5 (valueIn f))
+    go : (t : Bool) → cond t (ask BLANK true) (ask NUMBER (within today c f1 f5 (valueIn f))) .allowed ≡ (t || within today c f1 f5 (valueIn f))
     go true = refl
     go false = refl
 field-allowed (Signed c) f1 f5 f x e b n = rw n
@@ -159,26 +160,26 @@ module _ (w : Word) (fs : List Field) where
   unfolding inShape
   asks-in-shape = due-same fs asks (λ j. asked-small (kindAt w j) _ _ (keptAt fs j)) 6 ∙ below-same _ _ 6 asks-shape
 
-  asks-in-limits : inShape w fs ≡ true → everyBelow (λ (j : ℕ). asks j .allowed) 6 ≡ inLimits w fs
+  asks-in-limits : inShape w fs ≡ true → everyBelow (λ (j : ℕ). asks j .allowed) 6 ≡ inLimits today w fs
   unfolding inLimits
   asks-in-limits e = below-same _ _ 6 each
     where
-      each : (j : ℕ) → j < 6 → asks j .allowed ≡ allowed (kindAt w j) (F1 fs) (F5 fs) (fieldAt fs j)
+      each : (j : ℕ) → j < 6 → asks j .allowed ≡ allowed today (kindAt w j) (F1 fs) (F5 fs) (fieldAt fs j)
       each j h =
           field-allowed (kindAt w j) (keptAt fs 0 .number) (keptAt fs 4 .number) (fieldAt fs j) (keptAt fs j) (field-shaped w fs e j h) (blank-kept fs j) (number-kept w fs e j h)
-          ∙ ap (λ (n : ℕ). allowed (kindAt w j) n (keptAt fs 4 .number) (fieldAt fs j)) (number-kept w fs e 0 (omega arith))
-          ∙ ap (λ (n : ℕ). allowed (kindAt w j) (F1 fs) n (fieldAt fs j)) (number-kept w fs e 4 (omega arith))
+          ∙ ap (λ (n : ℕ). allowed today (kindAt w j) n (keptAt fs 4 .number) (fieldAt fs j)) (number-kept w fs e 0 (omega arith))
+          ∙ ap (λ (n : ℕ). allowed today (kindAt w j) (F1 fs) n (fieldAt fs j)) (number-kept w fs e 4 (omega arith))
 
   -- the row's answer, with the registers that are written told apart by the numbers that are kept of them
   pub row-judged : (place : ℕ) (differ : Bool) → (inShape w fs ≡ true → differ ≡ registersDiffer w fs)
-      → rowJudged place (shapesTo fs 6) (row (asks 0) (asks 1) (asks 2) (asks 3) (asks 4) (asks 5)) differ ≡ judged place (Known w) fs
+      → rowJudged place (shapesTo fs 6) (row (asks 0) (asks 1) (asks 2) (asks 3) (asks 4) (asks 5)) differ ≡ judged today place (Known w) fs
   unfolding judged dueTo everyBelow
   row-judged place differ d = go (inShape w fs) refl
     where
       due : packed (asks 0 .shape) (asks 1 .shape) (asks 2 .shape) (asks 3 .shape) (asks 4 .shape) (asks 5 .shape) ≡ dueTo asks 6
       due = omega arith
 
-      go : (b : Bool) → inShape w fs ≡ b → rowJudged place (shapesTo fs 6) (row (asks 0) (asks 1) (asks 2) (asks 3) (asks 4) (asks 5)) differ ≡ judged place (Known w) fs
+      go : (b : Bool) → inShape w fs ≡ b → rowJudged place (shapesTo fs 6) (row (asks 0) (asks 1) (asks 2) (asks 3) (asks 4) (asks 5)) differ ≡ judged today place (Known w) fs
       go true e = rw (due, asks-in-shape, e, d e, ← asks-in-limits e)
       go false e = rw (due, asks-in-shape, e)
 
@@ -198,7 +199,7 @@ module _ (place : ℕ) (fs : List Field) (u : Word) (us : List Word) (same : map
   kinds : (j : ℕ) (x : KeptField) → askedOf (kindAt u j) (keptAt fs 0 .number) (keptAt fs 4 .number) x ≡ askedOf (kindAt w j) (keptAt fs 0 .number) (keptAt fs 4 .number) x
   kinds j x = ap (λ (l : List Kind). askedOf (getD l j Empty) (keptAt fs 0 .number) (keptAt fs 4 .number) x) (sym (shared fieldsOf (fieldsOf u) (u ∷ us) same w one-of))
 
-  of-kept : (a b c d e f : Asked) (r : AskedRow) (j : Judgement) (differ : Bool) → (inShape w fs ≡ true → differ ≡ registersDiffer w fs) → Row (keptFields fs) a b c d e f r j differ → j ≡ judged place (Known w) fs
+  of-kept : (a b c d e f : Asked) (r : AskedRow) (j : Judgement) (differ : Bool) → (inShape w fs ≡ true → differ ≡ registersDiffer w fs) → Row (keptFields fs) a b c d e f r j differ → j ≡ judged today place (Known w) fs
   unfolding keptFields
   of-kept a b c d e f r j differ told h =
       let n1 = keptAt fs 0 .number in
@@ -215,7 +216,7 @@ module _ (place : ℕ) (fs : List Field) (u : Word) (us : List Word) (same : map
       )
       (row-judged w fs place differ told)
 
-  pub row-known : (x : KeptFields) → x ≡ keptFields fs → {a b c d e f : Asked} {r : AskedRow} {j : Judgement} (differ : Bool) → (inShape w fs ≡ true → differ ≡ registersDiffer w fs) → Row x a b c d e f r j differ → j ≡ judged place (Known w) fs
+  pub row-known : (x : KeptFields) → x ≡ keptFields fs → {a b c d e f : Asked} {r : AskedRow} {j : Judgement} (differ : Bool) → (inShape w fs ≡ true → differ ≡ registersDiffer w fs) → Row x a b c d e f r j differ → j ≡ judged today place (Known w) fs
   row-known x k {a} {b} {c} {d} {e} {f} {r} {j} differ told h =
       of-kept a b c d e f r j differ told (subst (λ (y : KeptFields). Row y a b c d e f r j differ) k h)
 

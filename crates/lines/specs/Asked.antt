@@ -7,6 +7,7 @@ use Rattle.model.specs.declared.text.Kind.the-variants.{Empty, Plain, Optional,
 use Rattle.model.specs.declared.answers.Refusal.the-variants.{FieldShape, NumberLimits, SameRegister}
 use Rattle.model.specs.declared.answers.Judgement.{Judgement}
 use Rattle.model.specs.declared.answers.Judgement.the-variants.{Accepted, Refused}
+use Rattle.model.specs.Limits.{today}
 use Rattle.model.specs.Words.{within}
 use Rattle.columns.specs.declared.field.KeptField.{KeptField}
 use Rattle.columns.specs.Kept.{BLANK, NUMBER, NEGATIVE, packed}
@@ -21,9 +22,9 @@ ask s a = record { shape = s; allowed = a }
 unfoldable pub askedOf : Kind → ℕ → ℕ → KeptField → Asked
 unfolding within
 askedOf Empty f1 f5 x = ask BLANK true
-askedOf (Plain c) f1 f5 x = ask NUMBER (within c f1 f5 (x .number))
-askedOf (Optional c) f1 f5 x = cond (eqb (x .shape) BLANK) (ask BLANK true) (ask NUMBER (within c f1 f5 (x .number)))
-askedOf (Signed c) f1 f5 x = ask (cond (eqb (x .shape) NEGATIVE && not (eqb (x .number) 0)) NEGATIVE NUMBER) (within c f1 f5 (x .number))
+askedOf (Plain c) f1 f5 x = ask NUMBER (within today c f1 f5 (x .number))
+askedOf (Optional c) f1 f5 x = cond (eqb (x .shape) BLANK) (ask BLANK true) (ask NUMBER (within today c f1 f5 (x .number)))
+askedOf (Signed c) f1 f5 x = ask (cond (eqb (x .shape) NEGATIVE && not (eqb (x .number) 0)) NEGATIVE NUMBER) (within today c f1 f5 (x .number))
 
 -- what six fields are asked, as one
 abbrev pub row : Asked → Asked → Asked → Asked → Asked → Asked → AskedRow

@@ -25,6 +25,7 @@ ghost use mathlib.Core.Path.{_≡_};
 ghost use mathlib.Core.List.{List};
 ghost use Rattle.model.specs.declared.text.Field.{Field};
 ghost use Rattle.model.specs.declared.text.FoundWord.the-variants.{Known};
+ghost use Rattle.model.specs.Limits.{today};
 ghost use Rattle.model.specs.Lines.{judged};
 ghost use Rattle.columns.specs.Kept.{keptFields};
 ghost use Rattle.lines.specs.Asked.{rowJudged};
@@ -49,7 +50,7 @@ fn judge_row(place: usize, shapes: u32, r: AskedRow, differ: bool) -> Judgement
 
 // 4, 5 and 19 of a word's fields F1 to F6, whose numbers are here a to f: a row for each word, or for several that ask the same. DIVM alone writes two registers.
 pub(crate) fn judge_known(place: usize, w: Word, x: KeptFields) -> Judgement
-    ensures { λ j. ⌜ ((fs : List Field) → x ≡ keptFields fs → j ≡ judged place (Known w) fs) ⌝ }
+    ensures { λ j. ⌜ ((fs : List Field) → x ≡ keptFields fs → j ≡ judged today place (Known w) fs) ⌝ }
 {
     let s = x.shapes;
     let a = x.first;

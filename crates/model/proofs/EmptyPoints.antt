@@ -10,7 +10,7 @@ use Rattle.model.specs.Answers.{_andThen_}
 use Rattle.model.specs.Listing.{Point, listingOf, pointsOf, pointExists}
 use Rattle.model.specs.Machine.{Tables, sizesOf, configOf}
 use Rattle.model.specs.Check.{listingJudged}
-use Rattle.model.specs.Run.{meetsClaims, tablesFit, claimsMet, stateJudged, runJudged, Ran, ranFrom, run}
+use Rattle.model.specs.Run.{meetsClaims, tablesFit, claimsMet, stateJudged, runJudged, Ran, ranFrom, run, runWithin, runJudgedWithin}
 use Rattle.model.specs.Safety.{Call, Sized, ranOn}
 use Rattle.model.specs.EmptyPoints.{turnedBack, AwayFromEmpty, AvoidsEmpty, AllLendBytes, AllAvoidEmpty, EmptyNotReached}
 use Rattle.model.proofs.Reading.{both-accepted, test-passed}
@@ -22,7 +22,7 @@ use Rattle.model.proofs.Safety.{passed, checked, good-start}
 -- where 1 to 17 accept a run, its first configuration is good
 pub accepted-good : (l : List ℕ) (s : State) (t : Tables) → length (s .registers) ≡ registers → Sized (sizesOf t) t → runJudged l s (sizesOf t) ≡ Accepted
     → Passes (pointsOf (listingOf l)) × Good (pointsOf (listingOf l)) (sizesOf t) (configOf s t)
-unfolding runJudged
+unfolding runJudgedWithin
 accepted-good l s t sixteen bytes e =
     let ps = pointsOf (listingOf l) in
     let (listing, state) = both-accepted (listingJudged (listingOf l)) (stateJudged ps s (sizesOf t)) e in
@@ -34,7 +34,7 @@ module _ (l : List ℕ) where
   -- one run, by what its tests answer: it keeps away from empty points, and hands back sixteen registers
   one-run : (s : State) (k : Call) → length (s .registers) ≡ registers → Sized (sizesOf (k .tables)) (k .tables)
       → AvoidsEmpty l s k × (length (ranOn l s k .outcome .state .registers) ≡ registers)
-  unfolding run
+  unfolding runWithin
   one-run s k sixteen bytes = go (runJudged l s (sizesOf (k .tables))) refl
     where
       ps : List Point

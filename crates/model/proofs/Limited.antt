@@ -7,7 +7,7 @@ use native.Mathlib.Omega.{arith}
 use lib.Dec.{ltb, leb, eqb}
 use borrow.Author.Tests.{ltb-true, leb-true, eqb-false, not-true}
 use Rattle.model.specs.Types.{Field, Blank, Number, Negative, Misshapen, Word, STOP, SETC, COPY, ADDW, SUBW, MULW, DIVF, LOAD, STOR, JUMP, BLTU, BEQU, LEAS, MOST, STRP, DIVM, TURN, FoundWord, Unknown, Known, empty, variable, number, refusedLine, LineBytes, FieldShape, NumberLimits, SameRegister, Accepted, refused}
-use Rattle.model.specs.Limits.{registers, variables, MAX, greatestSize, greatestScale, greatestOffset, greatestBound, greatestPoints}
+use Rattle.model.specs.Limits.{registers, variables, MAX, greatestSize, greatestScale, greatestOffset, greatestBound, greatestPoints, today}
 use Rattle.model.specs.Text.{valueIn}
 use Rattle.model.specs.Words.{words, wordAmong, fieldsOf, shaped, within, allowed}
 use Rattle.model.specs.Lines.{wellSpelled, fieldsIn, fieldAt, F1, F2, F3, F4, F5, F6, kindAt, inShape, inLimits, registersDiffer, judged, operandFrom, variableOrBlank, plusIn, minusIn, lineFrom, lineOr, lineFound, readLine}
@@ -47,14 +47,14 @@ scale-limited v e = (leb-true 1 v (and-left (leb 1 v) _ e), leb-true v greatestS
 
 -- each word, by the limits of its fields
 module _ (fs : List Field) where
-  field-allowed : (w : Word) → inLimits w fs ≡ true → (j : ℕ) → j < 6 → allowed (kindAt w j) (F1 fs) (F5 fs) (fieldAt fs j) ≡ true
+  field-allowed : (w : Word) → inLimits today w fs ≡ true → (j : ℕ) → j < 6 → allowed today (kindAt w j) (F1 fs) (F5 fs) (fieldAt fs j) ≡ true
   unfolding inLimits
-  field-allowed w e j h = every-below (λ (j : ℕ). allowed (kindAt w j) (F1 fs) (F5 fs) (fieldAt fs j)) 6 e j h
+  field-allowed w e j h = every-below (λ (j : ℕ). allowed today (kindAt w j) (F1 fs) (F5 fs) (fieldAt fs j)) 6 e j h
 
-  arithmetic : (w : Word) → inLimits w fs ≡ true
-      → allowed (kindAt w 0) (F1 fs) (F5 fs) (fieldAt fs 0) ≡ ltb (F1 fs) registers
-      → allowed (kindAt w 1) (F1 fs) (F5 fs) (fieldAt fs 1) ≡ ltb (F2 fs) variables
-      → allowed (kindAt w 5) (F1 fs) (F5 fs) (fieldAt fs 5) ≡ cond (eqb (F5 fs) 0) (ltb (F6 fs) variables) (leb (F6 fs) MAX)
+  arithmetic : (w : Word) → inLimits today w fs ≡ true
+      → allowed today (kindAt w 0) (F1 fs) (F5 fs) (fieldAt fs 0) ≡ ltb (F1 fs) registers
+      → allowed today (kindAt w 1) (F1 fs) (F5 fs) (fieldAt fs 1) ≡ ltb (F2 fs) variables
+      → allowed today (kindAt w 5) (F1 fs) (F5 fs) (fieldAt fs 5) ≡ cond (eqb (F5 fs) 0) (ltb (F6 fs) variables) (leb (F6 fs) MAX)
       → ArithmeticLimited (F1 fs) (F2 fs) (operandFrom (F5 fs) (F6 fs))
   arithmetic w e p q r = record {
     register = ltb-true (F1 fs) registers (rw p at (field-allowed w e 0 (omega arith)));
@@ -62,10 +62,10 @@ module _ (fs : List Field) where
     operand = operand-limited (F5 fs) (F6 fs) (rw r at (field-allowed w e 5 (omega arith)));
   }
 
-  branch : (w : Word) → inLimits w fs ≡ true
-      → allowed (kindAt w 1) (F1 fs) (F5 fs) (fieldAt fs 1) ≡ ltb (F2 fs) variables
-      → allowed (kindAt w 3) (F1 fs) (F5 fs) (fieldAt fs 3) ≡ ltb (F4 fs) greatestPoints
-      → allowed (kindAt w 5) (F1 fs) (F5 fs) (fieldAt fs 5) ≡ cond (eqb (F5 fs) 0) (ltb (F6 fs) variables) (leb (F6 fs) MAX)
+  branch : (w : Word) → inLimits today w fs ≡ true
+      → allowed today (kindAt w 1) (F1 fs) (F5 fs) (fieldAt fs 1) ≡ ltb (F2 fs) variables
+      → allowed today (kindAt w 3) (F1 fs) (F5 fs) (fieldAt fs 3) ≡ ltb (F4 fs) greatestPoints
+      → allowed today (kindAt w 5) (F1 fs) (F5 fs) (fieldAt fs 5) ≡ cond (eqb (F5 fs) 0) (ltb (F6 fs) variables) (leb (F6 fs) MAX)
       → BranchLimited (F2 fs) (F4 fs) (operandFrom (F5 fs) (F6 fs))
   branch w e p q r = record {
     variable = ltb-true (F2 fs) variables (rw p at (field-allowed w e 1 (omega arith)));
@@ -73,10 +73,10 @@ module _ (fs : List Field) where
     operand = operand-limited (F5 fs) (F6 fs) (rw r at (field-allowed w e 5 (omega arith)));
   }
 
-  access : (w : Word) → inLimits w fs ≡ true
-      → allowed (kindAt w 3) (F1 fs) (F5 fs) (fieldAt fs 3) ≡ (leb 1 (F4 fs) && leb (F4 fs) greatestScale)
-      → allowed (kindAt w 4) (F1 fs) (F5 fs) (fieldAt fs 4) ≡ ltb (F5 fs) variables
-      → allowed (kindAt w 5) (F1 fs) (F5 fs) (fieldAt fs 5) ≡ leb (F6 fs) greatestOffset
+  access : (w : Word) → inLimits today w fs ≡ true
+      → allowed today (kindAt w 3) (F1 fs) (F5 fs) (fieldAt fs 3) ≡ (leb 1 (F4 fs) && leb (F4 fs) greatestScale)
+      → allowed today (kindAt w 4) (F1 fs) (F5 fs) (fieldAt fs 4) ≡ ltb (F5 fs) variables
+      → allowed today (kindAt w 5) (F1 fs) (F5 fs) (fieldAt fs 5) ≡ leb (F6 fs) greatestOffset
       → AccessLimited (F4 fs) (F5 fs) (F6 fs)
   access w e p q r =
       let s = scale-limited (F4 fs) (rw p at (field-allowed w e 3 (omega arith))) in
@@ -87,7 +87,7 @@ module _ (fs : List Field) where
         offset = leb-true (F6 fs) greatestOffset (rw r at (field-allowed w e 5 (omega arith)));
       }
 
-  pub line-limited : (w : Word) → inLimits w fs ≡ true → registersDiffer w fs ≡ true → LineLimited (lineFrom w fs)
+  pub line-limited : (w : Word) → inLimits today w fs ≡ true → registersDiffer w fs ≡ true → LineLimited (lineFrom w fs)
   unfolding allowed within fieldsOf registersDiffer
   line-limited STOP e n = tt
   line-limited SETC e n = (ltb-true (F1 fs) registers (field-allowed SETC e 0 (omega arith)), leb-true (F6 fs) MAX (field-allowed SETC e 5 (omega arith)))
@@ -122,12 +122,12 @@ module _ (fs : List Field) where
   }
   line-limited TURN e n = ltb-true (F1 fs) registers (field-allowed TURN e 0 (omega arith))
 
-  found-limited : (place : ℕ) (w : FoundWord) → LineLimited (lineFound place w fs)
+  found-limited : (place : ℕ) (w : FoundWord) → LineLimited (lineFound today place w fs)
   unfolding judged
   found-limited place Unknown = tt
-  found-limited place (Known w) = go (inShape w fs) (inLimits w fs) (registersDiffer w fs) refl refl
+  found-limited place (Known w) = go (inShape w fs) (inLimits today w fs) (registersDiffer w fs) refl refl
     where
-      go : (a b c : Bool) → inLimits w fs ≡ b → registersDiffer w fs ≡ c
+      go : (a b c : Bool) → inLimits today w fs ≡ b → registersDiffer w fs ≡ c
           → LineLimited (lineOr (cond a (cond b (cond c Accepted (refused (SameRegister place))) (refused (NumberLimits place))) (refused (FieldShape place))) (lineFrom w fs))
       go true true true e d = line-limited w e d
       go true true false e d = tt
@@ -135,8 +135,8 @@ module _ (fs : List Field) where
       go false b c e d = tt
 
 -- every line that is read lies within its limits
-pub read-limited : (place : ℕ) (l : List ℕ) → LineLimited (readLine place l)
+pub read-limited : (place : ℕ) (l : List ℕ) → LineLimited (readLine today place l)
 unfolding readLine
 read-limited place l =
-    cond-cases LineLimited (wellSpelled l) (lineFound place (wordAmong words l) (fieldsIn l)) (refusedLine (LineBytes place))
+    cond-cases LineLimited (wellSpelled l) (lineFound today place (wordAmong words l) (fieldsIn l)) (refusedLine (LineBytes place))
     (λ e. found-limited (fieldsIn l) place (wordAmong words l)) (λ e. tt)

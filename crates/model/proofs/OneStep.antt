@@ -11,7 +11,7 @@ use lib.Seq.{getD-set-same, getD-set-other, set-append-left, getD-append-add}
 use lib.Dec.{ltb, leb, eqb}
 use borrow.Author.Tests.{ltb-true, ltb-false, leb-true, leb-false, eqb-true, eqb-false}
 use Rattle.model.specs.Types.{Width, One, Two, Four, Table, Trays, Results, Operand, Instruction, Stop, Setc, Copy, Addw, Subw, Mulw, Divf, Load, Stor, Jump, Bltu, Bequ, Divm, Edge, Next, Target, Claim, Accepted, refused, NoSuchTarget, DivisorMayBeZero, AccessMayLeave, ClaimMayFail}
-use Rattle.model.specs.Limits.{registers, variables, blankVariable, MAX, modulus, greatestLinks}
+use Rattle.model.specs.Limits.{registers, variables, blankVariable, MAX, modulus, greatestLinks, today}
 use Rattle.model.specs.Facts.{Facts, lo, hi, factsOf, valueAt}
 use Rattle.model.specs.Instructions.{targets, goesOn}
 use Rattle.model.specs.Listing.{Point, firstLine, pointAt, targetsExist}
@@ -122,15 +122,15 @@ module _ (ps : List Point) (limited : All PointLimited ps) (sizes : List ℕ) wh
   -- a step from a point with the claims cs on the line l
   module _ (c : Config) (t : Typed sizes c) (l : ℕ) (cs : List Claim) (h : Met (valueOf c) (factsOf cs)) where
     -- a register is written
-    write-good : (i : Instruction) (d x : ℕ) → d < registers → x ≤ MAX → c .point + 1 < length ps → Met (valueOf (wrote c d x)) (factsAlong Next i (factsOf cs))
-        → claimsJudged l (factsAlong Next i (factsOf cs)) (pointAt ps (c .point + 1)) ≡ Accepted → StepGood ps sizes (c .tables .trays) (next (wrote c d x))
-    write-good i d x in-d small on k e = (arrive l (factsAlong Next i (factsOf cs)) (wrote c d x) on (wrote-typed sizes c t d x in-d small) k e, refl)
+    write-good : (i : Instruction) (d x : ℕ) → d < registers → x ≤ MAX → c .point + 1 < length ps → Met (valueOf (wrote c d x)) (factsAlong today Next i (factsOf cs))
+        → claimsJudged l (factsAlong today Next i (factsOf cs)) (pointAt ps (c .point + 1)) ≡ Accepted → StepGood ps sizes (c .tables .trays) (next (wrote c d x))
+    write-good i d x in-d small on k e = (arrive l (factsAlong today Next i (factsOf cs)) (wrote c d x) on (wrote-typed sizes c t d x in-d small) k e, refl)
 
     -- no value changes
-    go-good : (i : Instruction) (e : Edge) (p : ℕ) → p < length ps → Met (valueOf c) (factsAlong e i (factsOf cs))
-        → claimsJudged l (factsAlong e i (factsOf cs)) (pointAt ps p) ≡ Accepted → StepGood ps sizes (c .tables .trays) (next (went c p))
+    go-good : (i : Instruction) (e : Edge) (p : ℕ) → p < length ps → Met (valueOf c) (factsAlong today e i (factsOf cs))
+        → claimsJudged l (factsAlong today e i (factsOf cs)) (pointAt ps p) ≡ Accepted → StepGood ps sizes (c .tables .trays) (next (went c p))
     go-good i e p on k j =
-        (arrive l (factsAlong e i (factsOf cs)) (went c p) on (record { registers = t .registers; tables = t .tables; bounded = t .bounded }) k j, refl)
+        (arrive l (factsAlong today e i (factsOf cs)) (went c p) on (record { registers = t .registers; tables = t .tables; bounded = t .bounded }) k j, refl)
 
     module _ (d : ℕ) (in-d : d < registers) where
       in-ranges : d < length (factsOf cs .ranges)
@@ -141,7 +141,7 @@ module _ (ps : List Point) (limited : All PointLimited ps) (sizes : List ℕ) wh
 
     -- DIVF: a divisor that is safe by the facts is not 0
     divf-good : (d i : ℕ) (o : Operand) → d < registers → c .point + 1 < length ps → divisorSafe (factsOf cs) o ≡ true
-        → claimsJudged l (factsAlong Next (Divf d i o) (factsOf cs)) (pointAt ps (c .point + 1)) ≡ Accepted → StepGood ps sizes (c .tables .trays) (stepOf (Divf d i o) c)
+        → claimsJudged l (factsAlong today Next (Divf d i o) (factsOf cs)) (pointAt ps (c .point + 1)) ≡ Accepted → StepGood ps sizes (c .tables .trays) (stepOf (Divf d i o) c)
     unfolding stepOf
     divf-good d i o in-d on safe e =
         let x = nearestQuotient (valueOf c i) (operandValue c o) in
@@ -157,7 +157,7 @@ module _ (ps : List Point) (limited : All PointLimited ps) (sizes : List ℕ) wh
 
     -- DIVM: the same, with the remainder written after the quotient
     divm-good : (q i r : ℕ) (o : Operand) → q < registers → r < registers → c .point + 1 < length ps → divisorSafe (factsOf cs) o ≡ true
-        → claimsJudged l (factsAlong Next (Divm q i r o) (factsOf cs)) (pointAt ps (c .point + 1)) ≡ Accepted → StepGood ps sizes (c .tables .trays) (stepOf (Divm q i r o) c)
+        → claimsJudged l (factsAlong today Next (Divm q i r o) (factsOf cs)) (pointAt ps (c .point + 1)) ≡ Accepted → StepGood ps sizes (c .tables .trays) (stepOf (Divm q i r o) c)
     unfolding stepOf
     divm-good q i r o in-q in-r on safe e =
         let x = quotient (valueOf c i) (operandValue c o) in
@@ -173,7 +173,7 @@ module _ (ps : List Point) (limited : All PointLimited ps) (sizes : List ℕ) wh
         cond-cases (StepGood ps sizes (c .tables .trays)) (eqb (operandValue c o) 0) errorState (next (wroteBoth c q x r y))
         (λ z. omega (arith, eqb-true))
         (λ z. (
-          arrive l (factsAlong Next (Divm q i r o) (factsOf cs)) (wroteBoth c q x r y) on
+          arrive l (factsAlong today Next (Divm q i r o) (factsOf cs)) (wroteBoth c q x r y) on
               (record { registers = second .registers; tables = second .tables; bounded = second .bounded })
               (divm-met (values c) (factsOf cs) h (values d) (values (wrote d r y)) q r
               (in-ranges q in-q) (wrote-same sizes c t q x in-q) (blank-value (valueOf d) (first .bounded))
@@ -192,7 +192,7 @@ module _ (ps : List Point) (limited : All PointLimited ps) (sizes : List ℕ) wh
         (λ z. g) (λ z. omega (arith, leb-false))
 
     load-good : (d : ℕ) (w : Width) (b : Table) (a i k : ℕ) → d < registers → c .point + 1 < length ps
-        → claimsJudged l (factsAlong Next (Load d w b a i k) (factsOf cs)) (pointAt ps (c .point + 1)) ≡ Accepted
+        → claimsJudged l (factsAlong today Next (Load d w b a i k) (factsOf cs)) (pointAt ps (c .point + 1)) ≡ Accepted
         → StepGood ps sizes (c .tables .trays) (next (wrote c d (readBytes (bytesOf w) (tableOf b (c .tables)) (address a (valueOf c i) k))))
     load-good d w b a i k in-d on e =
         let x = readBytes (bytesOf w) (tableOf b (c .tables)) (address a (valueOf c i) k) in
@@ -205,7 +205,7 @@ module _ (ps : List Point) (limited : All PointLimited ps) (sizes : List ℕ) wh
 
     -- a store keeps the size of the results, and with it every value
     stor-good : (v : ℕ) (w : Width) (a i k : ℕ) → c .point + 1 < length ps
-        → claimsJudged l (factsAlong Next (Stor v w a i k) (factsOf cs)) (pointAt ps (c .point + 1)) ≡ Accepted
+        → claimsJudged l (factsAlong today Next (Stor v w a i k) (factsOf cs)) (pointAt ps (c .point + 1)) ≡ Accepted
         → StepGood ps sizes (c .tables .trays) (next (stored c (writeBytes (bytesOf w) (c .tables .results) (address a (valueOf c i) k) (valueOf c v))))
     unfolding factsAlong
     stor-good v w a i k on e =
@@ -221,8 +221,8 @@ module _ (ps : List Point) (limited : All PointLimited ps) (sizes : List ℕ) wh
         (arrive l (factsOf cs) (stored c rs) on typed (subst (λ (vs : List ℕ). Met (valueAt vs) (factsOf cs)) same h) e, refl)
 
     bltu-good : (i u : ℕ) (o : Operand) → c .point + 1 < length ps → u < length ps
-        → claimsJudged l (factsAlong Next (Bltu i u o) (factsOf cs)) (pointAt ps (c .point + 1)) ≡ Accepted
-        → claimsJudged l (factsAlong (Target u) (Bltu i u o) (factsOf cs)) (pointAt ps u) ≡ Accepted
+        → claimsJudged l (factsAlong today Next (Bltu i u o) (factsOf cs)) (pointAt ps (c .point + 1)) ≡ Accepted
+        → claimsJudged l (factsAlong today (Target u) (Bltu i u o) (factsOf cs)) (pointAt ps u) ≡ Accepted
         → StepGood ps sizes (c .tables .trays) (stepOf (Bltu i u o) c)
     unfolding stepOf
     bltu-good i u o on there e e′ =
@@ -231,8 +231,8 @@ module _ (ps : List Point) (limited : All PointLimited ps) (sizes : List ℕ) wh
         (λ z. go-good (Bltu i u o) Next (c .point + 1) on (not-less-met (values c) (factsOf cs) h (facts-long cs) i u o (ltb-false _ _ z)) e)
 
     bequ-good : (i u : ℕ) (o : Operand) → c .point + 1 < length ps → u < length ps
-        → claimsJudged l (factsAlong Next (Bequ i u o) (factsOf cs)) (pointAt ps (c .point + 1)) ≡ Accepted
-        → claimsJudged l (factsAlong (Target u) (Bequ i u o) (factsOf cs)) (pointAt ps u) ≡ Accepted
+        → claimsJudged l (factsAlong today Next (Bequ i u o) (factsOf cs)) (pointAt ps (c .point + 1)) ≡ Accepted
+        → claimsJudged l (factsAlong today (Target u) (Bequ i u o) (factsOf cs)) (pointAt ps u) ≡ Accepted
         → StepGood ps sizes (c .tables .trays) (stepOf (Bequ i u o) c)
     unfolding stepOf
     bequ-good i u o on there e e′ =
@@ -240,7 +240,7 @@ module _ (ps : List Point) (limited : All PointLimited ps) (sizes : List ℕ) wh
         (λ z. go-good (Bequ i u o) (Target u) u there (equal-met (values c) (factsOf cs) h (facts-long cs) i u o u (eqb-true _ _ z)) e′)
         (λ z. go-good (Bequ i u o) Next (c .point + 1) on (unequal-met (values c) (factsOf cs) h (facts-long cs) i u o (eqb-false _ _ z)) e)
 
-    jump-good : (u : ℕ) → u < length ps → claimsJudged l (factsAlong (Target u) (Jump u) (factsOf cs)) (pointAt ps u) ≡ Accepted → StepGood ps sizes (c .tables .trays) (next (went c u))
+    jump-good : (u : ℕ) → u < length ps → claimsJudged l (factsAlong today (Target u) (Jump u) (factsOf cs)) (pointAt ps u) ≡ Accepted → StepGood ps sizes (c .tables .trays) (next (went c u))
     unfolding factsAlong
     jump-good u there e = go-good (Jump u) (Target u) u there h e
 
@@ -248,7 +248,7 @@ module _ (ps : List Point) (limited : All PointLimited ps) (sizes : List ℕ) wh
     target-exists u e = ltb-true u (length ps) (test-passed (ltb u (length ps)) (NoSuchTarget l) (both-accepted _ _ e .0))
 
     pub step-good : (i : Instruction) → Limited i → (goesOn i ≡ true → c .point + 1 < length ps) → targetsExist (length ps) l (targets i) ≡ Accepted
-        → owedJudged ps (c .point) (record { line = l; claims = cs; instruction = i }) ≡ Accepted → StepGood ps sizes (c .tables .trays) (stepOf i c)
+        → owedJudged today ps (c .point) (record { line = l; claims = cs; instruction = i }) ≡ Accepted → StepGood ps sizes (c .tables .trays) (stepOf i c)
     unfolding stepOf owedJudged safetyJudged
     step-good Stop lim on reach owed = tt
     step-good (Setc d x) lim on reach owed =
@@ -293,10 +293,10 @@ module _ (ps : List Point) (limited : All PointLimited ps) (sizes : List ℕ) wh
         access-good Results w a i k _ (test-passed _ _ safe) (stor-good v w a i k (on refl) (both-accepted _ _ rest .0))
     step-good (Jump u) lim on reach owed = jump-good u (target-exists u reach) (both-accepted _ _ owed .0)
     step-good (Bltu i u o) lim on reach owed =
-        let (first, rest) = both-accepted (claimsJudged l (factsAlong Next (Bltu i u o) (factsOf cs)) (pointAt ps (c .point + 1))) _ owed in
+        let (first, rest) = both-accepted (claimsJudged l (factsAlong today Next (Bltu i u o) (factsOf cs)) (pointAt ps (c .point + 1))) _ owed in
         bltu-good i u o (on refl) (target-exists u reach) first (both-accepted _ _ rest .0)
     step-good (Bequ i u o) lim on reach owed =
-        let (first, rest) = both-accepted (claimsJudged l (factsAlong Next (Bequ i u o) (factsOf cs)) (pointAt ps (c .point + 1))) _ owed in
+        let (first, rest) = both-accepted (claimsJudged l (factsAlong today Next (Bequ i u o) (factsOf cs)) (pointAt ps (c .point + 1))) _ owed in
         bequ-good i u o (on refl) (target-exists u reach) first (both-accepted _ _ rest .0)
     step-good (Divm q i r o) lim on reach owed =
         let (safe, rest) = both-accepted (cond (divisorSafe (factsOf cs) o) Accepted (refused (DivisorMayBeZero l))) _ owed in

@@ -7,19 +7,20 @@ use native.Mathlib.Nat.{zero-add}
 use native.Mathlib.Omega.{arith}
 use lib.ListN.{length, length-append}
 use Rattle.model.specs.Types.{Range, Claim, Leas, Most, Strp, Turn, Accepted}
+use Rattle.model.specs.Limits.{today}
 use Rattle.model.specs.Lists.{everyBelow}
 use Rattle.model.specs.Facts.{Facts, unclaimed, withClaim, withClaims, factsOf, nonEmpty}
 use Rattle.model.specs.Listing.{Point, isEmpty}
 use Rattle.model.specs.Check.{owedJudged, pointJudged}
 
 module _ (ps : List Point) (p : ℕ) (q : Point) where
-  pub owes-nothing : isEmpty q ≡ true → pointJudged ps p q ≡ Accepted
+  pub owes-nothing : isEmpty q ≡ true → pointJudged today ps p q ≡ Accepted
   unfolding pointJudged
-  owes-nothing e = ap (λ (b : Bool). cond b Accepted (owedJudged ps p q)) e
+  owes-nothing e = ap (λ (b : Bool). cond b Accepted (owedJudged today ps p q)) e
 
-  pub owes : isEmpty q ≡ false → pointJudged ps p q ≡ owedJudged ps p q
+  pub owes : isEmpty q ≡ false → pointJudged today ps p q ≡ owedJudged today ps p q
   unfolding pointJudged
-  owes e = ap (λ (b : Bool). cond b Accepted (owedJudged ps p q)) e
+  owes e = ap (λ (b : Bool). cond b Accepted (owedJudged today ps p q)) e
 
 -- a claim adds at most one stripe
 stripes-few : (f : Facts) (cs : List Claim) → length (withClaims f cs .stripes) ≤ length (f .stripes) + length cs

@@ -6,11 +6,11 @@ use Prim.Native.Nat.{ℕ, zero, suc, _+_, _-_, _/_, _≤_, _<_}
 use native.Mathlib.Omega.{arith}
 use lib.ListN.{length, length-append}
 use Rattle.model.specs.Types.{Claim, Line, refusedLine, claimLine, instructionLine, Refusal, ListingLength, NoEnd, ClaimOrder, Judgement, Accepted, refused}
-use Rattle.model.specs.Limits.{lineBytes}
+use Rattle.model.specs.Limits.{lineBytes, today}
 use Rattle.model.specs.Answers.{_andThen_}
 use Rattle.model.specs.Lines.{readLine}
 use Rattle.model.specs.Instructions.{targets, goesOn}
-use Rattle.model.specs.Listing.{Point, lineAt, inOrder, Reading, going, refusedReading, afterLine, readTo, pointAt, endsWithInstruction, fewPoints, allTargetsExist, endsInPlace, startsNonEmpty, wholeJudged, Listing, readAs, refusedListing, listingOr, listingFrom, goodLength, listingOf}
+use Rattle.model.specs.Listing.{Point, lineAt, inOrder, Reading, going, refusedReading, afterLine, readTo, pointAt, endsWithInstruction, fewPoints, allTargetsExist, endsInPlace, startsNonEmpty, wholeJudged, Listing, readAs, refusedListing, listingOr, listingFrom, goodLength, listingOf, listingWithin}
 use Rattle.model.proofs.Tests.{cond-cases}
 use Rattle.model.proofs.Lists.{All, all-snoc}
 use Rattle.model.specs.Limited.{Limited, ClaimLimited, LineLimited}
@@ -56,10 +56,10 @@ read-more n (going ps cs) (claimLine c) h t =
 read-more n (going ps cs) (instructionLine i) h t =
     (all-snoc PointLimited ps _ (h .0) (record { instruction = t; claims = h .1; before = omega arith }), tt, omega arith)
 
-read-well : (s : List ℕ) (n : ℕ) → ReadWell n (readTo s n)
+read-well : (s : List ℕ) (n : ℕ) → ReadWell n (readTo today s n)
 unfolding readTo
 read-well s zero = (tt, tt, omega arith)
-read-well s (suc n) = read-more n (readTo s n) (readLine (n + 1) (lineAt s n)) (read-well s n) (read-limited (n + 1) (lineAt s n))
+read-well s (suc n) = read-more n (readTo today s n) (readLine today (n + 1) (lineAt s n)) (read-well s n) (read-limited (n + 1) (lineAt s n))
 
 -- the points of a listing: within the limits, every target a point, the last instruction STOP or JUMP
 pub record WellFormed (ps : List Point) : Type 0 where
@@ -89,10 +89,10 @@ from-well n (refusedReading r) h = tt
 from-well n (going ps cs) h = whole-well n ps cs (h .0) (wholeJudged n ps cs) refl
 
 listing-well : (s : List ℕ) → ListingWell (listingOf s)
-unfolding listingOf
+unfolding listingWithin
 listing-well s =
-    cond-cases ListingWell (goodLength (length s)) (listingFrom (length s / lineBytes) (readTo s (length s / lineBytes))) (refusedListing ListingLength)
-    (λ e. from-well (length s / lineBytes) (readTo s (length s / lineBytes)) (read-well s (length s / lineBytes))) (λ e. tt)
+    cond-cases ListingWell (goodLength (length s)) (listingFrom (length s / lineBytes) (readTo today s (length s / lineBytes))) (refusedListing ListingLength)
+    (λ e. from-well (length s / lineBytes) (readTo today s (length s / lineBytes)) (read-well s (length s / lineBytes))) (λ e. tt)
 
 -- a listing that is read is well-formed
 pub well-formed : (s : List ℕ) (ps : List Point) → listingOf s ≡ readAs ps → WellFormed ps

@@ -8,13 +8,13 @@ use lib.ListN.{length, length-append}
 use lib.Dec.{ltb, leb}
 use borrow.Author.Tests.{ltb-true, lt-ltb, le-leb}
 use Rattle.model.specs.Types.{Table, Trays, Results, State, Judgement, Accepted, refused, Passed, Stopped, Paused}
-use Rattle.model.specs.Limits.{registers, tables, variables, greatestSize}
+use Rattle.model.specs.Limits.{registers, tables, variables, greatestSize, today}
 use Rattle.model.specs.Lists.{every}
 use Rattle.model.specs.Facts.{factsOf, valueAt}
 use Rattle.model.specs.Listing.{Point, pointAt, Listing, readAs, refusedListing, listingOf, pointsOf, pointExists}
 use Rattle.model.specs.Machine.{Tables, tableOf, sizesOf, sizeVariable, Config, configOf, stateOf, valuesFrom, values, steps}
-use Rattle.model.specs.Check.{pointsJudged, listingJudged, verdictFrom, verdictOf, check}
-use Rattle.model.specs.Run.{meetsClaims, tablesFit, claimsMet, runJudged, runFor, atStop, Ran, finished, ranFrom, run}
+use Rattle.model.specs.Check.{pointsJudged, listingJudged, verdictFrom, verdictWithin, check, checkWithin}
+use Rattle.model.specs.Run.{meetsClaims, tablesFit, claimsMet, runJudged, runFor, atStop, Ran, finished, ranFrom, run, runWithin, runJudgedWithin}
 use Rattle.model.specs.Safety.{Call, Sized, AllLend, HaltedWell, EndedWell, RunsWell, ranOn, Kept, Safety}
 use Rattle.model.proofs.Tests.{and-left, and-right, and-both}
 use Rattle.model.proofs.Lists.{all-at}
@@ -36,13 +36,13 @@ verdict-accepted n k Accepted e = refl
 verdict-accepted n k (refused r) e = let z : _≡_ {A = ℕ} 0 1 = cc in absurd (omega arith)
 
 pub checked : (l : List ℕ) (k : ℕ) → check l ≡ Passed k → Checked l
-unfolding check
+unfolding checkWithin
 checked l k e = go (listingOf l) refl e
   where
-    go : (x : Listing) → listingOf l ≡ x → verdictOf x ≡ Passed k → Checked l
+    go : (x : Listing) → listingOf l ≡ x → verdictWithin today x ≡ Passed k → Checked l
     go (refusedListing r) q v = let z : _≡_ {A = ℕ} 0 1 = cc in absurd (omega arith)
     go (readAs ps) q v =
-        let j : pointsJudged ps (length ps) ≡ Accepted = verdict-accepted (length ps) k _ v in
+        let j : pointsJudged today ps (length ps) ≡ Accepted = verdict-accepted (length ps) k _ v in
         record {
           passes = rw q (record { formed = well-formed l ps q; owed = each-accepted ps (length ps) j });
           accepted = rw q j;
@@ -50,10 +50,10 @@ checked l k e = go (listingOf l) refl e
 
 -- an accepted listing is passed
 pub passed : (l : List ℕ) → listingJudged (listingOf l) ≡ Accepted → check l ≡ Passed (length (pointsOf (listingOf l)))
-unfolding check
+unfolding checkWithin
 passed l e = go (listingOf l) e
   where
-    go : (x : Listing) → listingJudged x ≡ Accepted → verdictOf x ≡ Passed (length (pointsOf x))
+    go : (x : Listing) → listingJudged x ≡ Accepted → verdictWithin today x ≡ Passed (length (pointsOf x))
     go (readAs ps) e = ap (verdictFrom (length ps)) e
     go (refusedListing r) e = let z : _≡_ {A = ℕ} 0 1 = cc in absurd (omega arith)
 
@@ -124,7 +124,7 @@ module _ (ps : List Point) (passes : Passes ps) (sizes : List ℕ) where
 module _ (l : List ℕ) (h : Checked l) (sizes : List ℕ) where
   -- nothing turns the run back
   not-refused : (s : State) (t : Tables) → Good (pointsOf (listingOf l)) sizes (configOf s t) → runJudged l s (sizesOf t) ≡ Accepted
-  unfolding runJudged every
+  unfolding runJudgedWithin every
   not-refused s t g =
       let ps = pointsOf (listingOf l) in
       let small : (b : Table) → leb (length (tableOf b t)) greatestSize ≡ true = λ b. le-leb _ _ (size-fits ps (h .passes) sizes (configOf s t) (g .typed) b) in
@@ -134,7 +134,7 @@ module _ (l : List ℕ) (h : Checked l) (sizes : List ℕ) where
       accepted-both _ _ (h .accepted) (accepted-both _ _ (accepted-both _ _ fits exists) claims)
 
   kept : (s : State) → length (s .registers) ≡ registers → meetsClaims (pointsOf (listingOf l)) s sizes ≡ true → (ks : List Call) → AllLend sizes ks → Kept l sizes s ks
-  unfolding run
+  unfolding runWithin
   kept s sixteen e [] lends = tt
   kept s sixteen e (k ∷ ks) lends =
       let ps = pointsOf (listingOf l) in

@@ -8,6 +8,7 @@ use native.Mathlib.Omega.{arith}
 use native.Mathlib.Decide.{ℕ-discrete, decLt}
 use lib.ListN.{length, getD}
 use Rattle.model.specs.Types.{Accepted}
+use Rattle.model.specs.Limits.{today}
 use Rattle.model.specs.Instructions.{targets, goesOn}
 use Rattle.model.specs.Listing.{Point, isEmpty, pointAt, targetsExist, allTargetsExist}
 use Rattle.model.specs.Facts.{factsOf}
@@ -28,15 +29,15 @@ steps-add ps k (suc j) m = rw add-suc (ap (onward ps) (steps-add ps k j m))
 -- the points of a listing that passes: well-formed, and each point has what it owes
 pub record Passes (ps : List Point) : Type 0 where
   pub formed : WellFormed ps
-  pub owed : (p : ℕ) → p < length ps → pointJudged ps p (pointAt ps p) ≡ Accepted
+  pub owed : (p : ℕ) → p < length ps → pointJudged today ps p (pointAt ps p) ≡ Accepted
 
-pub each-accepted : (ps : List Point) (n : ℕ) → pointsJudged ps n ≡ Accepted → (p : ℕ) → p < n → pointJudged ps p (pointAt ps p) ≡ Accepted
+pub each-accepted : (ps : List Point) (n : ℕ) → pointsJudged today ps n ≡ Accepted → (p : ℕ) → p < n → pointJudged today ps p (pointAt ps p) ≡ Accepted
 unfolding pointsJudged
 each-accepted ps zero e p h = absurd (not-suc-le-zero h)
-each-accepted ps (suc n) e p h = go (ℕ-discrete p n) (each-accepted ps n (both-accepted (pointsJudged ps n) _ e .0))
+each-accepted ps (suc n) e p h = go (ℕ-discrete p n) (each-accepted ps n (both-accepted (pointsJudged today ps n) _ e .0))
   where
-    go : Dec (p ≡ n) → ((q : ℕ) → q < n → pointJudged ps q (pointAt ps q) ≡ Accepted) → pointJudged ps p (pointAt ps p) ≡ Accepted
-    go (yes q) f = rw q (both-accepted (pointsJudged ps n) _ e .1)
+    go : Dec (p ≡ n) → ((q : ℕ) → q < n → pointJudged today ps q (pointAt ps q) ≡ Accepted) → pointJudged today ps p (pointAt ps p) ≡ Accepted
+    go (yes q) f = rw q (both-accepted (pointsJudged today ps n) _ e .1)
     go (no q) f = f p (omega arith)
 
 pub targets-at : (n : ℕ) (qs : List Point) (d : Point) (p : ℕ) → p < length qs → allTargetsExist n qs ≡ Accepted → targetsExist n (getD qs p d .line) (targets (getD qs p d .instruction)) ≡ Accepted

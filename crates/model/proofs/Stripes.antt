@@ -10,7 +10,7 @@ use native.Mathlib.Decide.{ℕ-discrete}
 use lib.Dec.{eqb}
 use borrow.Author.Tests.{eqb-true, eqb-false, eq-eqb, ne-eqb, not-true}
 use Rattle.model.specs.Types.{Stripe}
-use Rattle.model.specs.Limits.{blankVariable}
+use Rattle.model.specs.Limits.{blankVariable, today}
 use Rattle.model.specs.Lists.{kept}
 use Rattle.model.specs.Transfer.{names, dropped, boundInLimits, ifIs, shifted, allShifted, apart, byNumber}
 use Rattle.model.proofs.Tests.{cond-cases}
@@ -85,13 +85,13 @@ module _ (d : ℕ) (val val′ : ℕ → ℕ) (same : OnlyAt d val val′) where
     map-shifted [] h = tt
     map-shifted (s ∷ ss) h = (shifted-holds s (h .0), map-shifted ss (h .1))
 
-    shifted-hold : (ss : List Stripe) → AllHold val ss → AllHold val′ (allShifted d up down ss)
-    shifted-hold ss h = kept-hold val′ boundInLimits (map (shifted d up down) ss) (map-shifted ss h)
+    shifted-hold : (ss : List Stripe) → AllHold val ss → AllHold val′ (allShifted today d up down ss)
+    shifted-hold ss h = kept-hold val′ (boundInLimits today) (map (shifted d up down) ss) (map-shifted ss h)
 
   -- d becomes i + up − down
-  pub by-number : (i up down : ℕ) (ss : List Stripe) → val′ blankVariable ≡ 0 → val′ d + down ≡ val i + up → AllHold val ss → AllHold val′ (byNumber d i up down ss)
+  pub by-number : (i up down : ℕ) (ss : List Stripe) → val′ blankVariable ≡ 0 → val′ d + down ≡ val i + up → AllHold val ss → AllHold val′ (byNumber today d i up down ss)
   by-number i up down ss z moved h =
-      cond-cases (AllHold val′) (eqb d i) (allShifted d up down ss) (apart d i up down ∷ apart i d down up ∷ dropped d ss)
+      cond-cases (AllHold val′) (eqb d i) (allShifted today d up down ss) (apart d i up down ∷ apart i d down up ∷ dropped d ss)
       (λ e. let q : val d ≡ val i = ap val (eqb-true d i e) in shifted-hold up down (omega arith) ss h)
       (λ e.
       let away : i ≢ d = λ q. eqb-false d i e (sym q) in

@@ -11,7 +11,7 @@ use lib.ListN.{length, set, length-set}
 use lib.Dec.{eqb, leb}
 use borrow.Author.Tests.{leb-true, leb-false, eqb-true, eqb-false, not-true}
 use Rattle.model.specs.Types.{Width, Table, Operand, variable, number, Setc, Copy, Addw, Subw, Mulw, Divf, Load, Bltu, Bequ, Divm, Edge, Next, Target, Range, Stripe}
-use Rattle.model.specs.Limits.{MAX, variables, blankVariable, greatestScale}
+use Rattle.model.specs.Limits.{MAX, variables, blankVariable, greatestScale, today}
 use Rattle.model.specs.Facts.{exactly, Facts, rangeOf, valueAt}
 use Rattle.model.specs.Machine.{operandAt, bytesOf, sum, difference, product, quotient, nearestQuotient, remainder}
 use Rattle.model.specs.Transfer.{nothing, operandRange, sumFits, differenceFits, productFits, below, atLeast, atMost, overlap, without, hasOneValue, changed, operandChanged, dropped, quotientRange, remainderRange, stripe, apart, sumStripes, differenceStripes, productStripes, lessStripes, notLessStripes, equalStripes, factsAlong}
@@ -42,11 +42,11 @@ module _ (vs : List ℕ) (f : Facts) (h : Met (valueAt vs) f) where
     chosen true r q ss ts a b c e = written r ss (a refl) (b refl)
     chosen false r q ss ts a b c e = written q ts (c refl) (e refl)
 
-    pub setc-met : (e : Edge) (c : ℕ) → valueAt vs′ d ≡ c → Met (valueAt vs′) (factsAlong e (Setc d c) f)
+    pub setc-met : (e : Edge) (c : ℕ) → valueAt vs′ d ≡ c → Met (valueAt vs′) (factsAlong today e (Setc d c) f)
     unfolding factsAlong
     setc-met e c q = written (exactly c) (dropped d (f .stripes)) (omega arith) dropped-met
 
-    pub copy-met : (e : Edge) (i : ℕ) → valueAt vs′ d ≡ valueAt vs i → Met (valueAt vs′) (factsAlong e (Copy d i) f)
+    pub copy-met : (e : Edge) (i : ℕ) → valueAt vs′ d ≡ valueAt vs i → Met (valueAt vs′) (factsAlong today e (Copy d i) f)
     unfolding factsAlong
     copy-met e i q =
         let r = h .ranges i in
@@ -64,7 +64,7 @@ module _ (vs : List ℕ) (f : Facts) (h : Met (valueAt vs) f) where
             go (yes n) = ap (valueAt vs′) n ∙ q ∙ ap (valueAt vs) (sym p ∙ sym n)
             go (no n) = same v n
 
-    sum-hold : (i : ℕ) (o : Operand) → valueAt vs′ d ≡ valueAt vs i + operandAt vs o → AllHold (valueAt vs′) (sumStripes d i o (f .stripes))
+    sum-hold : (i : ℕ) (o : Operand) → valueAt vs′ d ≡ valueAt vs i + operandAt vs o → AllHold (valueAt vs′) (sumStripes today d i o (f .stripes))
     sum-hold i (number c) q = by-number d (valueAt vs) (valueAt vs′) same i c 0 (f .stripes) zero′ (omega arith) (h .stripes)
     sum-hold i (variable v) q =
         cond-cases (AllHold (valueAt vs′)) (eqb d i || eqb d v) (dropped d (f .stripes)) (stripe d 1 i v 0 0 ∷ dropped d (f .stripes)) (λ t. dropped-met)
@@ -74,7 +74,7 @@ module _ (vs : List ℕ) (f : Facts) (h : Met (valueAt vs) f) where
         let sv : valueAt vs′ v ≡ valueAt vs v = same v (λ p. eqb-false d v nv (sym p)) in
         (omega arith, dropped-met))
 
-    difference-hold : (i : ℕ) (o : Operand) → valueAt vs′ d + operandAt vs o ≡ valueAt vs i → AllHold (valueAt vs′) (differenceStripes d i o (f .stripes))
+    difference-hold : (i : ℕ) (o : Operand) → valueAt vs′ d + operandAt vs o ≡ valueAt vs i → AllHold (valueAt vs′) (differenceStripes today d i o (f .stripes))
     difference-hold i (number c) q = by-number d (valueAt vs) (valueAt vs′) same i 0 c (f .stripes) zero′ (omega arith) (h .stripes)
     difference-hold i (variable v) q =
         cond-cases (AllHold (valueAt vs′)) (eqb d i || eqb d v) (dropped d (f .stripes)) (stripe i 1 d v 0 0 ∷ dropped d (f .stripes)) (λ t. dropped-met)
@@ -84,7 +84,7 @@ module _ (vs : List ℕ) (f : Facts) (h : Met (valueAt vs) f) where
         let sv : valueAt vs′ v ≡ valueAt vs v = same v (λ p. eqb-false d v nv (sym p)) in
         (omega arith, dropped-met))
 
-    product-hold : (i : ℕ) (o : Operand) → valueAt vs′ d ≡ valueAt vs i * operandAt vs o → AllHold (valueAt vs′) (productStripes d i o (f .stripes))
+    product-hold : (i : ℕ) (o : Operand) → valueAt vs′ d ≡ valueAt vs i * operandAt vs o → AllHold (valueAt vs′) (productStripes today d i o (f .stripes))
     product-hold i (variable v) q = dropped-met
     product-hold i (number c) q =
         cond-cases (AllHold (valueAt vs′)) (leb 1 c && leb c greatestScale && not (eqb d i)) (stripe d c i blankVariable 0 0 ∷ dropped d (f .stripes)) (dropped d (f .stripes))
@@ -94,7 +94,7 @@ module _ (vs : List ℕ) (f : Facts) (h : Met (valueAt vs) f) where
         (omega arith, dropped-met))
         (λ t. dropped-met)
 
-    pub addw-met : (e : Edge) (i : ℕ) (o : Operand) → valueAt vs′ d ≡ sum (valueAt vs i) (operandAt vs o) → Met (valueAt vs′) (factsAlong e (Addw d i o) f)
+    pub addw-met : (e : Edge) (i : ℕ) (o : Operand) → valueAt vs′ d ≡ sum (valueAt vs i) (operandAt vs o) → Met (valueAt vs′) (factsAlong today e (Addw d i o) f)
     unfolding factsAlong
     addw-met e i o q =
         let r = h .ranges i in
@@ -102,7 +102,7 @@ module _ (vs : List ℕ) (f : Facts) (h : Met (valueAt vs) f) where
         chosen (sumFits (rangeOf (f .ranges) i) (operandRange (f .ranges) o)) _ _ _ _
         (λ t. omega (arith, leb-true)) (λ t. sum-hold i o (omega (arith, leb-true))) (λ t. omega arith) (λ t. dropped-met)
 
-    pub subw-met : (e : Edge) (i : ℕ) (o : Operand) → valueAt vs i ≤ MAX → valueAt vs′ d ≡ difference (valueAt vs i) (operandAt vs o) → Met (valueAt vs′) (factsAlong e (Subw d i o) f)
+    pub subw-met : (e : Edge) (i : ℕ) (o : Operand) → valueAt vs i ≤ MAX → valueAt vs′ d ≡ difference (valueAt vs i) (operandAt vs o) → Met (valueAt vs′) (factsAlong today e (Subw d i o) f)
     unfolding factsAlong
     subw-met e i o small q =
         let r = h .ranges i in
@@ -113,7 +113,7 @@ module _ (vs : List ℕ) (f : Facts) (h : Met (valueAt vs) f) where
         (λ k. omega (arith, leb-true)) (λ k. absurd (omega (arith, leb-true, leb-false))))
         (λ t. difference-hold i o (omega (arith, leb-true))) (λ t. omega arith) (λ t. dropped-met)
 
-    pub mulw-met : (e : Edge) (i : ℕ) (o : Operand) → valueAt vs′ d ≡ product (valueAt vs i) (operandAt vs o) → Met (valueAt vs′) (factsAlong e (Mulw d i o) f)
+    pub mulw-met : (e : Edge) (i : ℕ) (o : Operand) → valueAt vs′ d ≡ product (valueAt vs i) (operandAt vs o) → Met (valueAt vs′) (factsAlong today e (Mulw d i o) f)
     unfolding factsAlong
     mulw-met e i o q =
         let r = h .ranges i in
@@ -124,7 +124,7 @@ module _ (vs : List ℕ) (f : Facts) (h : Met (valueAt vs) f) where
         chosen (productFits a b) _ _ _ _
         (λ t. omega (arith, ends (omega (arith, leb-true)))) (λ t. product-hold i o (omega (arith, ends (omega (arith, leb-true))))) (λ t. omega arith) (λ t. dropped-met)
 
-    pub divf-met : (e : Edge) (i : ℕ) (o : Operand) → 0 < operandAt vs o → valueAt vs′ d ≡ nearestQuotient (valueAt vs i) (operandAt vs o) → Met (valueAt vs′) (factsAlong e (Divf d i o) f)
+    pub divf-met : (e : Edge) (i : ℕ) (o : Operand) → 0 < operandAt vs o → valueAt vs′ d ≡ nearestQuotient (valueAt vs i) (operandAt vs o) → Met (valueAt vs′) (factsAlong today e (Divf d i o) f)
     unfolding factsAlong
     divf-met e i o pos q =
         let r = h .ranges i in
@@ -137,7 +137,7 @@ module _ (vs : List ℕ) (f : Facts) (h : Met (valueAt vs) f) where
         (λ t. absurd (omega (arith, eqb-true))) (λ t. omega (arith, ends)))
         dropped-met
 
-    pub load-met : (e : Edge) (w : Width) (b : Table) (a i k : ℕ) → valueAt vs′ d < 256 ^ bytesOf w → Met (valueAt vs′) (factsAlong e (Load d w b a i k) f)
+    pub load-met : (e : Edge) (w : Width) (b : Table) (a i k : ℕ) → valueAt vs′ d < 256 ^ bytesOf w → Met (valueAt vs′) (factsAlong today e (Load d w b a i k) f)
     unfolding factsAlong
     load-met e w b a i k q = written _ _ (omega arith) dropped-met
 
@@ -159,7 +159,7 @@ module _ (vs : List ℕ) (f : Facts) (h : Met (valueAt vs) f) where
       less-hold (variable v) q = (apart-holds (valueAt vs) _ _ _ _ zero-blank (omega arith), h .stripes)
       less-hold (number c) q = h .stripes
 
-      pub less-met : (u : ℕ) → valueAt vs i < operandAt vs o → Met (valueAt vs) (factsAlong (Target u) (Bltu i t o) f)
+      pub less-met : (u : ℕ) → valueAt vs i < operandAt vs o → Met (valueAt vs) (factsAlong today (Target u) (Bltu i t o) f)
       unfolding factsAlong
       less-met u q =
           let a = h .ranges i in
@@ -176,7 +176,7 @@ module _ (vs : List ℕ) (f : Facts) (h : Met (valueAt vs) f) where
       not-less-hold (variable v) q = (apart-holds (valueAt vs) _ _ _ _ zero-blank (omega arith), h .stripes)
       not-less-hold (number c) q = h .stripes
 
-      pub not-less-met : operandAt vs o ≤ valueAt vs i → Met (valueAt vs) (factsAlong Next (Bltu i t o) f)
+      pub not-less-met : operandAt vs o ≤ valueAt vs i → Met (valueAt vs) (factsAlong today Next (Bltu i t o) f)
       unfolding factsAlong
       not-less-met q =
           let a = h .ranges i in
@@ -190,7 +190,7 @@ module _ (vs : List ℕ) (f : Facts) (h : Met (valueAt vs) f) where
       equal-hold (variable v) q = (apart-holds (valueAt vs) _ _ _ _ zero-blank (omega arith), (apart-holds (valueAt vs) _ _ _ _ zero-blank (omega arith), h .stripes))
       equal-hold (number c) q = h .stripes
 
-      pub equal-met : (u : ℕ) → valueAt vs i ≡ operandAt vs o → Met (valueAt vs) (factsAlong (Target u) (Bequ i t o) f)
+      pub equal-met : (u : ℕ) → valueAt vs i ≡ operandAt vs o → Met (valueAt vs) (factsAlong today (Target u) (Bequ i t o) f)
       unfolding factsAlong
       equal-met u q =
           let a = h .ranges i in
@@ -207,7 +207,7 @@ module _ (vs : List ℕ) (f : Facts) (h : Met (valueAt vs) f) where
         cond-cases (λ (e : ℕ). n ≤ e) (eqb (r .hi) c) (c - 1) (r .hi) (λ z. let p = eqb-true (r .hi) c z in let q : n ≢ c = other in omega arith) (λ z. k .1),
       )
 
-      pub unequal-met : (valueAt vs i ≡ operandAt vs o → ⊥) → Met (valueAt vs) (factsAlong Next (Bequ i t o) f)
+      pub unequal-met : (valueAt vs i ≡ operandAt vs o → ⊥) → Met (valueAt vs) (factsAlong today Next (Bequ i t o) f)
       unfolding factsAlong
       unequal-met q =
           let b = in-operand o in
@@ -226,7 +226,7 @@ module _ (vs : List ℕ) (f : Facts) (h : Met (valueAt vs) f) (vs₁ vs₂ : Lis
   pub divm-met : q < length (f .ranges) → OnlyAt q (valueAt vs) (valueAt vs₁) → valueAt vs₁ blankVariable ≡ 0
       → r < length (f .ranges) → OnlyAt r (valueAt vs₁) (valueAt vs₂) → valueAt vs₂ blankVariable ≡ 0
       → (e : Edge) (i : ℕ) (o : Operand) → 0 < operandAt vs o
-      → valueAt vs₁ q ≡ quotient (valueAt vs i) (operandAt vs o) → valueAt vs₂ r ≡ remainder (valueAt vs i) (operandAt vs o) → Met (valueAt vs₂) (factsAlong e (Divm q i r o) f)
+      → valueAt vs₁ q ≡ quotient (valueAt vs i) (operandAt vs o) → valueAt vs₂ r ≡ remainder (valueAt vs i) (operandAt vs o) → Met (valueAt vs₂) (factsAlong today e (Divm q i r o) f)
   unfolding factsAlong
   divm-met inside-q same-q zero-q inside-r same-r zero-r e i o pos x y =
       let k = h .ranges i in

@@ -12,8 +12,8 @@ use Rattle.model.specs.Lists.{every, some, among}
 use Rattle.model.specs.Answers.{_andThen_}
 use Rattle.model.specs.Instructions.{writes, targets, isJump}
 use Rattle.model.specs.Facts.{Facts, lo, hi, factsOf}
-use Rattle.model.specs.Listing.{Point, pointAt, listingOf, pointsOf}
-use Rattle.model.specs.Check.{listingJudged, check}
+use Rattle.model.specs.Listing.{Point, pointAt, listingOf, listingWithin, pointsOf}
+use Rattle.model.specs.Check.{listingJudged, checkWithin}
 use Rattle.model.specs.Run.{meetsClaims, run}
 use Rattle.model.specs.Safety.{Call, AllLend, ranOn}
 
@@ -111,7 +111,7 @@ boundFrom ps (refused r) = refusedBound r
 
 -- the answer of the call: 1 to 14 and 19, then 20, and the bound
 unfoldable pub stepBound : List ℕ → StepBound
-unfolding listingOf check edgesCovered boundOf
+unfolding listingWithin checkWithin edgesCovered boundOf
 stepBound s =
     let ps = pointsOf (listingOf s) in
     boundFrom ps (listingJudged (listingOf s) andThen edgesCovered ps (length ps))

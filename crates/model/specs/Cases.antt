@@ -15,6 +15,7 @@ use mathlib.Core.Path.{_≡_, refl}
 use mathlib.Core.List.{List, [], _∷_, _++_, map}
 use lib.ListN.{length, replicate}
 use Rattle.model.specs.Types.{Field, Blank, Number, Negative, variable, number, Instruction, Stop, Copy, Subw, Jump, Bltu, Bequ, Divm, Divf, Next, Claim, Leas, Most, Strp, Turn, State, Refusal, Judgement, Accepted, refused, StepBound, Bounded, refusedBound, Verdict, Passed, refusedVerdict, Report, Stopped, Paused, refusedRun}
+use Rattle.model.specs.Limits.{today}
 use Rattle.model.specs.Text.{space}
 use Rattle.model.specs.Words.{bytes}
 use Rattle.model.specs.Answers.{numberOf, placeOf, secondPlaceOf}
@@ -24,8 +25,8 @@ use Rattle.model.specs.Machine.{lent}
 use Rattle.model.specs.Facts.{factsOf}
 use Rattle.model.specs.Transfer.{apart, factsAlong}
 use Rattle.model.specs.Follows.{lostAlong}
-use Rattle.model.specs.Check.{claimsJudged, pointsJudged, check}
-use Rattle.model.specs.Run.{Ran, run}
+use Rattle.model.specs.Check.{claimsJudged, pointsJudged, check, checkWithin}
+use Rattle.model.specs.Run.{Ran, run, runWithin}
 use Rattle.model.specs.Output.{printed}
 use Rattle.model.specs.Bound.{edgesCovered, boundFrom, stepBound}
 
@@ -627,11 +628,11 @@ pointsNeed ps a = record { given = answer (ofBound (boundFrom ps (edgesCovered p
 -- 14 along the edge of an instruction on line 4 where register 1, from 1 on, is at most m, to a point with a claim that its quotient does not meet
 abbrev divisorOwes : ℕ → Instruction → Answer → Case
 divisorOwes m i a =
-    record { given = answer (ofJudgement (claimsJudged 4 (factsAlong Next i (factsOf (some ++ (Most 1 m ∷ [])))) (on 6 (Leas 1 9 ∷ []) Stop))); stated = answer a }
+    record { given = answer (ofJudgement (claimsJudged 4 (factsAlong today Next i (factsOf (some ++ (Most 1 m ∷ [])))) (on 6 (Leas 1 9 ∷ []) Stop))); stated = answer a }
 
 -- 12 to 14 over points that are read
 abbrev pointsOwe : List Point → Answer → Case
-pointsOwe ps a = record { given = answer (ofJudgement (pointsJudged ps (length ps))); stated = answer a }
+pointsOwe ps a = record { given = answer (ofJudgement (pointsJudged today ps (length ps))); stated = answer a }
 
 -- the tests 7 to 11 over so many lines that were read as these points
 abbrev wholeTested : ℕ → List Point → Answer → Case
@@ -940,5 +941,5 @@ stated c = c .stated
 
 -- the theorem: every answer is the one stated
 worked : map given table ≡ map stated table
-unfolding factsOf factsAlong lostAlong pointsJudged check wholeJudged printed run claimLines roomFor lineJudged listingSet stepBound
+unfolding factsOf factsAlong lostAlong pointsJudged checkWithin wholeJudged printed runWithin claimLines roomFor lineJudged listingSet stepBound
 worked = refl

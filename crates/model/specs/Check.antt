@@ -8,10 +8,10 @@ use mathlib.Core.List.{List, [], _∷_}
 use lib.ListN.{length}
 use lib.Dec.{leb, eqb}
 use Rattle.model.specs.Types.{Width, Table, Results, Operand, Instruction, Stop, Setc, Copy, Addw, Subw, Mulw, Divf, Load, Stor, Jump, Bltu, Bequ, Divm, Edge, DivisorMayBeZero, AccessMayLeave, ClaimMayFail, Judgement, Accepted, refused, Verdict, Passed, refusedVerdict}
-use Rattle.model.specs.Limits.{blankVariable, greatestLinks}
+use Rattle.model.specs.Limits.{blankVariable, greatestLinks, StripeLimits, today}
 use Rattle.model.specs.Answers.{_andThen_}
 use Rattle.model.specs.Facts.{Facts, factsOf, nonEmpty, lo, hi}
-use Rattle.model.specs.Listing.{Point, isEmpty, pointAt, firstLine, Listing, readAs, refusedListing, listingOf}
+use Rattle.model.specs.Listing.{Point, isEmpty, pointAt, firstLine, Listing, readAs, refusedListing, listingWithin}
 use Rattle.model.specs.Machine.{bytesOf, sizeVariable}
 use Rattle.model.specs.Transfer.{edges, leadsTo, operandRange, stripe, factsAlong}
 use Rattle.model.specs.Follows.{follows, lostAlong}
@@ -47,44 +47,54 @@ safetyJudged l f (Divm q i r o) = cond (divisorSafe f o) Accepted (refused (Divi
 abbrev pub claimsJudged : ℕ → Facts → Point → Judgement
 claimsJudged l f q = let lost = lostAlong f (firstLine q) (q .claims) in cond (eqb lost 0) Accepted (refused (ClaimMayFail l lost))
 
--- the same along each of some edges of q, the p-th point, in order
-abbrev pub edgesJudged : List Point → ℕ → Point → List Edge → Judgement
-edgesJudged ps p q [] = Accepted
-edgesJudged ps p q (e ∷ es) =
-    claimsJudged (q .line) (factsAlong e (q .instruction) (factsOf (q .claims))) (pointAt ps (leadsTo p e)) andThen edgesJudged ps p q es
+module _ (L : StripeLimits) where
+  -- the same along each of some edges of q, the p-th point, in order
+  abbrev pub edgesJudged : List Point → ℕ → Point → List Edge → Judgement
+  edgesJudged ps p q [] = Accepted
+  edgesJudged ps p q (e ∷ es) =
+      claimsJudged (q .line) (factsAlong L e (q .instruction) (factsOf (q .claims))) (pointAt ps (leadsTo p e)) andThen edgesJudged ps p q es
 
--- what q, the p-th point, owes if it is not empty, in order
-unfoldable pub owedJudged : List Point → ℕ → Point → Judgement
-unfolding safetyJudged factsOf factsAlong lostAlong
-owedJudged ps p q = safetyJudged (q .line) (factsOf (q .claims)) (q .instruction) andThen edgesJudged ps p q (edges (q .instruction))
+  -- what q, the p-th point, owes if it is not empty, in order
+  unfoldable pub owedJudged : List Point → ℕ → Point → Judgement
+  unfolding safetyJudged factsOf factsAlong lostAlong
+  owedJudged ps p q = safetyJudged (q .line) (factsOf (q .claims)) (q .instruction) andThen edgesJudged ps p q (edges (q .instruction))
 
--- everything that q, the p-th point, owes; an empty point owes nothing
-unfoldable pub pointJudged : List Point → ℕ → Point → Judgement
-unfolding factsOf nonEmpty owedJudged
-pointJudged ps p q = cond (isEmpty q) Accepted (owedJudged ps p q)
+  -- everything that q, the p-th point, owes; an empty point owes nothing
+  unfoldable pub pointJudged : List Point → ℕ → Point → Judgement
+  unfolding factsOf nonEmpty owedJudged
+  pointJudged ps p q = cond (isEmpty q) Accepted (owedJudged ps p q)
 
--- the first n points, in order
-unfoldable pub pointsJudged : List Point → ℕ → Judgement
-unfolding pointJudged
-pointsJudged ps zero = Accepted
-pointsJudged ps (suc n) = pointsJudged ps n andThen pointJudged ps n (pointAt ps n)
+  -- the first n points, in order
+  unfoldable pub pointsJudged : List Point → ℕ → Judgement
+  unfolding pointJudged
+  pointsJudged ps zero = Accepted
+  pointsJudged ps (suc n) = pointsJudged ps n andThen pointJudged ps n (pointAt ps n)
 
--- 12 to 14 over all points of a listing that is read; one that is turned back by 1 to 11 or 19 stays so
+  -- 12 to 14 over all points of a listing that is read, within the limits; one that is turned back by 1 to 11 or 19 stays so
+  abbrev pub listingJudgedWithin : Listing → Judgement
+  listingJudgedWithin (readAs ps) = pointsJudged ps (length ps)
+  listingJudgedWithin (refusedListing r) = refused r
+
+-- 12 to 14 over all points of a listing
 abbrev pub listingJudged : Listing → Judgement
-listingJudged (readAs ps) = pointsJudged ps (length ps)
-listingJudged (refusedListing r) = refused r
+listingJudged l = listingJudgedWithin today l
 
 -- the answer for n points and what became of their tests
 abbrev pub verdictFrom : ℕ → Judgement → Verdict
 verdictFrom n Accepted = Passed n
 verdictFrom n (refused r) = refusedVerdict r
 
--- the answer for a listing that is read or turned back
-abbrev pub verdictOf : Listing → Verdict
-verdictOf (readAs ps) = verdictFrom (length ps) (listingJudged (readAs ps))
-verdictOf (refusedListing r) = refusedVerdict r
+module _ (L : StripeLimits) where
+  -- the answer for a listing that is read or turned back
+  abbrev pub verdictWithin : Listing → Verdict
+  verdictWithin (readAs ps) = verdictFrom (length ps) (listingJudgedWithin L (readAs ps))
+  verdictWithin (refusedListing r) = refusedVerdict r
+
+  -- the checker's answer within the limits
+  unfoldable pub checkWithin : List ℕ → Verdict
+  unfolding listingWithin pointsJudged
+  checkWithin s = verdictWithin (listingWithin L s)
 
 -- the checker's answer; a listing is 'passed' if this turns it back by none of 1 to 14 and 19
-unfoldable pub check : List ℕ → Verdict
-unfolding listingOf pointsJudged
-check s = verdictOf (listingOf s)
+abbrev pub check : List ℕ → Verdict
+check s = checkWithin today s

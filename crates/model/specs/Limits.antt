@@ -1,4 +1,6 @@
 -- The counts and limits of document 01, each under one name.
+-- The greatest scale and the greatest bound stand in a record too, which the definitions that ask for them take first: document 02 moves both
+-- and promises what holds of a listing that passed within document 01's.
 use Prim.Native.Nat.{ℕ, _+_, _/_}
 
 -- the registers, variables 0 to 15
@@ -29,17 +31,17 @@ modulus = 4294967296
 abbrev pub greatestSize : ℕ
 greatestSize = 65536
 
--- the greatest scale of a stripe or an access
+-- the greatest scale of a stripe or an access, by document 02's T-07
 abbrev pub greatestScale : ℕ
-greatestScale = 255
+greatestScale = 4095
 
 -- the greatest offset of an access
 abbrev pub greatestOffset : ℕ
 greatestOffset = 65535
 
--- the greatest bound of a stripe, with or without a minus
+-- the greatest bound of a stripe, with or without a minus, by document 02's T-07
 abbrev pub greatestBound : ℕ
-greatestBound = 4398046511104
+greatestBound = 70368744177664
 
 -- the greatest number of points; targets lie below it
 abbrev pub greatestPoints : ℕ
@@ -64,3 +66,16 @@ greatestListing = 65520
 -- the greatest number of lines of a listing
 abbrev pub greatestLines : ℕ
 greatestLines = greatestListing / lineBytes
+
+-- the limits of stripes and accesses that document 02 moves
+pub record StripeLimits : Type 0 where
+  pub scale : ℕ
+  pub bound : ℕ
+
+-- the limits of document 02's T-07, by which every call answers
+abbrev pub today : StripeLimits
+today = record { scale = greatestScale; bound = greatestBound }
+
+-- the limits of document 01
+abbrev pub earlier : StripeLimits
+earlier = record { scale = 255; bound = 4398046511104 }

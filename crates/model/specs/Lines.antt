@@ -7,7 +7,7 @@ use mathlib.Core.List.{List, [], _∷_}
 use lib.ListN.{getD, set}
 use lib.Dec.{leb, eqb}
 use Rattle.model.specs.Types.{Field, Blank, Number, Negative, Misshapen, Word, STOP, SETC, COPY, ADDW, SUBW, MULW, DIVF, LOAD, STOR, JUMP, BLTU, BEQU, LEAS, MOST, STRP, DIVM, TURN, FoundWord, Unknown, Known, Kind, empty, Width, One, Two, Four, Table, Trays, Results, Operand, variable, number, Stop, Setc, Copy, Addw, Subw, Mulw, Divf, Load, Stor, Jump, Bltu, Bequ, Divm, Leas, Most, Strp, Turn, Line, refusedLine, claimLine, instructionLine, LineBytes, UnknownWord, FieldShape, NumberLimits, SameRegister, Judgement, Accepted, refused}
-use Rattle.model.specs.Limits.{blankVariable}
+use Rattle.model.specs.Limits.{blankVariable, StripeLimits}
 use Rattle.model.specs.Lists.{everyBelow}
 use Rattle.model.specs.Text.{space, lineEnd, fieldOf, valueIn, fieldSet}
 use Rattle.model.specs.Words.{words, wordAmong, fieldsOf, shaped, allowed}
@@ -74,10 +74,11 @@ unfoldable pub inShape : Word → List Field → Bool
 unfolding everyBelow shaped fieldsOf
 inShape w fs = everyBelow (λ (j : ℕ). shaped (kindAt w j) (fieldAt fs j)) 6
 
--- every number lies within its limits
-unfoldable pub inLimits : Word → List Field → Bool
-unfolding everyBelow allowed fieldsOf
-inLimits w fs = everyBelow (λ (j : ℕ). allowed (kindAt w j) (F1 fs) (F5 fs) (fieldAt fs j)) 6
+module _ (L : StripeLimits) where
+  -- every number lies within its limits
+  unfoldable pub inLimits : Word → List Field → Bool
+  unfolding everyBelow allowed fieldsOf
+  inLimits w fs = everyBelow (λ (j : ℕ). allowed L (kindAt w j) (F1 fs) (F5 fs) (fieldAt fs j)) 6
 
 -- 19: DIVM writes two registers, so that F1 and F3 differ; of the other words nothing is asked
 unfoldable pub registersDiffer : Word → List Field → Bool
@@ -103,11 +104,12 @@ registersDiffer TURN fs = true
 abbrev pub registersJudged : ℕ → Word → List Field → Judgement
 registersJudged place w fs = cond (registersDiffer w fs) Accepted (refused (SameRegister place))
 
--- 3, 4, 5 and 19: a word and its fields, judged with a line number for place
-unfoldable pub judged : ℕ → FoundWord → List Field → Judgement
-unfolding inShape inLimits registersDiffer
-judged place Unknown fs = refused (UnknownWord place)
-judged place (Known w) fs = cond (inShape w fs) (cond (inLimits w fs) (registersJudged place w fs) (refused (NumberLimits place))) (refused (FieldShape place))
+module _ (L : StripeLimits) where
+  -- 3, 4, 5 and 19: a word and its fields, judged with a line number for place
+  unfoldable pub judged : ℕ → FoundWord → List Field → Judgement
+  unfolding inShape inLimits registersDiffer
+  judged place Unknown fs = refused (UnknownWord place)
+  judged place (Known w) fs = cond (inShape w fs) (cond (inLimits L w fs) (registersJudged place w fs) (refused (NumberLimits place))) (refused (FieldShape place))
 
 -- the width that a number within its limits stands for
 abbrev pub widthFrom : ℕ → Width
@@ -169,15 +171,16 @@ abbrev pub lineOr : Judgement → Line → Line
 lineOr Accepted l = l
 lineOr (refused r) l = refusedLine r
 
--- the line of a word that was found, or not, with its fields
-abbrev pub lineFound : ℕ → FoundWord → List Field → Line
-lineFound place Unknown fs = lineOr (judged place Unknown fs) (refusedLine (UnknownWord place))
-lineFound place (Known w) fs = lineOr (judged place (Known w) fs) (lineFrom w fs)
+module _ (L : StripeLimits) where
+  -- the line of a word that was found, or not, with its fields
+  abbrev pub lineFound : ℕ → FoundWord → List Field → Line
+  lineFound place Unknown fs = lineOr (judged L place Unknown fs) (refusedLine (UnknownWord place))
+  lineFound place (Known w) fs = lineOr (judged L place (Known w) fs) (lineFrom w fs)
 
--- a line of 40 bytes with its number, read
-unfoldable pub readLine : ℕ → List ℕ → Line
-unfolding wellSpelled judged wordAmong fieldsIn
-readLine place l = cond (wellSpelled l) (lineFound place (wordAmong words l) (fieldsIn l)) (refusedLine (LineBytes place))
+  -- a line of 40 bytes with its number, read
+  unfoldable pub readLine : ℕ → List ℕ → Line
+  unfolding wellSpelled judged wordAmong fieldsIn
+  readLine place l = cond (wellSpelled l) (lineFound place (wordAmong words l) (fieldsIn l)) (refusedLine (LineBytes place))
 
 -- writing: the four bytes of a word set in a line
 unfoldable pub wordSet : List ℕ → List ℕ → List ℕ

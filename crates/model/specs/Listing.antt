@@ -6,7 +6,7 @@ use mathlib.Core.List.{List, [], _∷_, _++_}
 use lib.ListN.{length, getD, take, drop}
 use lib.Dec.{leb, ltb, eqb}
 use Rattle.model.specs.Types.{Instruction, Stop, Claim, Leas, Most, Strp, Turn, Line, refusedLine, claimLine, instructionLine, Refusal, ListingLength, ClaimOrder, LastLineClaim, TooManyPoints, NoSuchTarget, NoEnd, EmptyStart, NoSuchPoint, Judgement, Accepted, refused, ClaimPart}
-use Rattle.model.specs.Limits.{lineBytes, greatestListing, greatestPoints, greatestStripes}
+use Rattle.model.specs.Limits.{lineBytes, greatestListing, greatestPoints, greatestStripes, StripeLimits, today}
 use Rattle.model.specs.Answers.{_andThen_}
 use Rattle.model.specs.Instructions.{targets, goesOn}
 use Rattle.model.specs.Lines.{readLine}
@@ -86,11 +86,12 @@ afterLine (going ps cs) k (refusedLine r) = refusedReading r
 afterLine (going ps cs) k (claimLine c) = cond (inOrder k cs c) (going ps (cs ++ (c ∷ []))) (refusedReading (ClaimOrder (k + 1)))
 afterLine (going ps cs) k (instructionLine i) = going (ps ++ (record { line = k + 1; claims = cs; instruction = i } ∷ [])) []
 
--- the first n lines
-unfoldable pub readTo : List ℕ → ℕ → Reading
-unfolding readLine
-readTo s zero = going [] []
-readTo s (suc n) = afterLine (readTo s n) n (readLine (n + 1) (lineAt s n))
+module _ (L : StripeLimits) where
+  -- the first n lines
+  unfoldable pub readTo : List ℕ → ℕ → Reading
+  unfolding readLine
+  readTo s zero = going [] []
+  readTo s (suc n) = afterLine (readTo s n) n (readLine L (n + 1) (lineAt s n))
 
 -- point p; past the last a STOP without claims
 abbrev pub pointAt : List Point → ℕ → Point
@@ -148,13 +149,18 @@ listingFrom lines (going ps cs) = listingOr (wholeJudged lines ps cs) ps
 unfoldable pub goodLength : ℕ → Bool
 goodLength n = leb 1 n && leb n greatestListing && eqb (n % lineBytes) 0
 
+module _ (L : StripeLimits) where
+  -- a listing, read within the limits
+  unfoldable pub listingWithin : List ℕ → Listing
+  unfolding goodLength readTo wholeJudged
+  listingWithin s =
+      let lines = length s / lineBytes in
+      let read = listingFrom lines (readTo L s lines) in
+      cond (goodLength (length s)) read (refusedListing ListingLength)
+
 -- a listing, read
-unfoldable pub listingOf : List ℕ → Listing
-unfolding goodLength readTo wholeJudged
-listingOf s =
-    let lines = length s / lineBytes in
-    let read = listingFrom lines (readTo s lines) in
-    cond (goodLength (length s)) read (refusedListing ListingLength)
+abbrev pub listingOf : List ℕ → Listing
+listingOf s = listingWithin today s
 
 -- the points of a listing; none where it is turned back
 abbrev pub pointsOf : Listing → List Point
@@ -189,7 +195,7 @@ partOr (refused r) l = []
 
 -- the claim lines of point p as a part of the listing, empty on refusal
 unfoldable pub claimLines : List ℕ → ℕ → List ℕ
-unfolding listingOf
+unfolding listingWithin
 claimLines s p = partOr (claimLinesJudged (listingOf s) p) (claimBytes s (pointAt (pointsOf (listingOf s)) p))
 
 -- a judgement with the place of the part, 0 and 0 on refusal
@@ -199,5 +205,5 @@ partJudged (refused r) q = record { judgement = refused r; offset = 0; length = 
 
 -- the same part by its offset and its length, with the judgement of the call
 unfoldable pub claimPart : List ℕ → ℕ → ClaimPart
-unfolding listingOf
+unfolding listingWithin
 claimPart s p = partJudged (claimLinesJudged (listingOf s) p) (pointAt (pointsOf (listingOf s)) p)

@@ -6,14 +6,14 @@ use mathlib.Core.List.{List}
 use lib.ListN.{length}
 use lib.Dec.{leb, ltb}
 use Rattle.model.specs.Types.{State, TableLength, ClaimsNotMet, Judgement, Accepted, refused, Stopped, Paused, refusedRun, Outcome}
-use Rattle.model.specs.Limits.{greatestSize}
+use Rattle.model.specs.Limits.{greatestSize, StripeLimits, today}
 use Rattle.model.specs.Lists.{every}
 use Rattle.model.specs.Answers.{_andThen_}
 use Rattle.model.specs.Instructions.{isStop}
 use Rattle.model.specs.Facts.{factsOf, meets}
-use Rattle.model.specs.Listing.{Point, pointAt, listingOf, pointsOf, pointExists}
+use Rattle.model.specs.Listing.{Point, pointAt, listingWithin, pointsOf, pointExists}
 use Rattle.model.specs.Machine.{Tables, Config, sizesOf, configOf, stateOf, valuesFrom, Step, next, stopped, errorState, instructionAt, stepOf, stepAt}
-use Rattle.model.specs.Check.{listingJudged, check}
+use Rattle.model.specs.Check.{listingJudgedWithin, checkWithin}
 
 -- a state 'meets the claims' of its point, over tables of these sizes: the point exists, and the values of all variables meet its facts
 unfoldable pub meetsClaims : List Point → State → List ℕ → Bool
@@ -37,10 +37,15 @@ claimsMet ps s sizes = cond (meetsClaims ps s sizes) Accepted (refused ClaimsNot
 abbrev pub stateJudged : List Point → State → List ℕ → Judgement
 stateJudged ps s sizes = tablesFit sizes andThen pointExists ps (s .point) andThen claimsMet ps s sizes
 
--- 1 to 17 and 19, in their order, for a listing, a state and tables of these sizes
-unfoldable pub runJudged : List ℕ → State → List ℕ → Judgement
-unfolding listingOf check every meetsClaims
-runJudged l s sizes = listingJudged (listingOf l) andThen stateJudged (pointsOf (listingOf l)) s sizes
+module _ (L : StripeLimits) where
+  -- 1 to 17 and 19 within the limits, in their order, for a listing, a state and tables of these sizes
+  unfoldable pub runJudgedWithin : List ℕ → State → List ℕ → Judgement
+  unfolding listingWithin checkWithin every meetsClaims
+  runJudgedWithin l s sizes = listingJudgedWithin L (listingWithin L l) andThen stateJudged (pointsOf (listingWithin L l)) s sizes
+
+-- 1 to 17 and 19
+abbrev pub runJudged : List ℕ → State → List ℕ → Judgement
+runJudged l s sizes = runJudgedWithin today l s sizes
 
 -- the steps made so far, and where they led
 pub record Progress : Type 0 where
@@ -84,7 +89,12 @@ abbrev pub ranFrom : Judgement → List Point → State → Tables → ℕ → R
 ranFrom Accepted ps s t budget = finished ps (runFor ps budget (configOf s t))
 ranFrom (refused r) ps s t budget = record { outcome = record { report = refusedRun r; state = s; steps = 0 }; tables = t }
 
+module _ (L : StripeLimits) where
+  -- a run of a listing, judged within the limits, from a state over tables with a budget
+  unfoldable pub runWithin : List ℕ → State → Tables → ℕ → Ran
+  unfolding runJudgedWithin runFor
+  runWithin l s t budget = ranFrom (runJudgedWithin L l s (sizesOf t)) (pointsOf (listingWithin L l)) s t budget
+
 -- a run of a listing from a state over tables with a budget
-unfoldable pub run : List ℕ → State → Tables → ℕ → Ran
-unfolding runJudged runFor
-run l s t budget = ranFrom (runJudged l s (sizesOf t)) (pointsOf (listingOf l)) s t budget
+abbrev pub run : List ℕ → State → Tables → ℕ → Ran
+run l s t budget = runWithin today l s t budget

@@ -9,7 +9,7 @@ use mathlib.Core.List.{List, [], _∷_, _++_, map}
 use lib.ListN.{set}
 use lib.Dec.{leb, eqb}
 use Rattle.model.specs.Types.{Operand, variable, number, Instruction, Stop, Setc, Copy, Addw, Subw, Mulw, Divf, Load, Stor, Jump, Bltu, Bequ, Divm, Edge, Next, Target, Range, Stripe}
-use Rattle.model.specs.Limits.{MAX, blankVariable, greatestScale, greatestBound}
+use Rattle.model.specs.Limits.{MAX, blankVariable, StripeLimits}
 use Rattle.model.specs.Lists.{kept}
 use Rattle.model.specs.Facts.{between, exactly, registerRange, Facts, rangeOf, nonEmpty}
 use Rattle.model.specs.Instructions.{targets, goesOn}
@@ -153,8 +153,8 @@ abbrev pub dropped : ℕ → List Stripe → List Stripe
 dropped d ss = kept (λ (s : Stripe). not (names d s)) ss
 
 -- the bound lies within its limits
-abbrev pub boundInLimits : Stripe → Bool
-boundInLimits s = leb (s .plus) (s .minus + greatestBound) && leb (s .minus) (s .plus + greatestBound)
+abbrev pub boundInLimits : StripeLimits → Stripe → Bool
+boundInLimits L s = leb (s .plus) (s .minus + L .bound) && leb (s .minus) (s .plus + L .bound)
 
 -- n if v is d, else 0
 abbrev pub ifIs : ℕ → ℕ → ℕ → ℕ
@@ -172,8 +172,8 @@ shifted d up down s = record {
 }
 
 -- all stripes shifted; one whose bound leaves its limits is dropped
-abbrev pub allShifted : ℕ → ℕ → ℕ → List Stripe → List Stripe
-allShifted d up down ss = kept boundInLimits (map (shifted d up down) ss)
+abbrev pub allShifted : StripeLimits → ℕ → ℕ → ℕ → List Stripe → List Stripe
+allShifted L d up down ss = kept (boundInLimits L) (map (shifted d up down) ss)
 
 -- the stripe x − a × (y + z) ≥ plus − minus
 abbrev pub stripe : ℕ → ℕ → ℕ → ℕ → ℕ → ℕ → Stripe
@@ -184,24 +184,24 @@ abbrev pub apart : ℕ → ℕ → ℕ → ℕ → Stripe
 apart u v p m = stripe u 1 v blankVariable p m
 
 -- d = i + up − down for a number: both ways round, or all stripes shifted where d is i
-abbrev pub byNumber : ℕ → ℕ → ℕ → ℕ → List Stripe → List Stripe
-byNumber d i up down ss = cond (eqb d i) (allShifted d up down ss) (apart d i up down ∷ apart i d down up ∷ dropped d ss)
+abbrev pub byNumber : StripeLimits → ℕ → ℕ → ℕ → ℕ → List Stripe → List Stripe
+byNumber L d i up down ss = cond (eqb d i) (allShifted L d up down ss) (apart d i up down ∷ apart i d down up ∷ dropped d ss)
 
 -- ADDW where nothing wraps: by a number, or d − (i + o) ≥ 0
-abbrev pub sumStripes : ℕ → ℕ → Operand → List Stripe → List Stripe
-sumStripes d i (variable o) ss = cond (eqb d i || eqb d o) (dropped d ss) (stripe d 1 i o 0 0 ∷ dropped d ss)
-sumStripes d i (number c) ss = byNumber d i c 0 ss
+abbrev pub sumStripes : StripeLimits → ℕ → ℕ → Operand → List Stripe → List Stripe
+sumStripes L d i (variable o) ss = cond (eqb d i || eqb d o) (dropped d ss) (stripe d 1 i o 0 0 ∷ dropped d ss)
+sumStripes L d i (number c) ss = byNumber L d i c 0 ss
 
 -- SUBW where nothing wraps: by a number, or i − (d + o) ≥ 0
-abbrev pub differenceStripes : ℕ → ℕ → Operand → List Stripe → List Stripe
-differenceStripes d i (variable o) ss = cond (eqb d i || eqb d o) (dropped d ss) (stripe i 1 d o 0 0 ∷ dropped d ss)
-differenceStripes d i (number c) ss = byNumber d i 0 c ss
+abbrev pub differenceStripes : StripeLimits → ℕ → ℕ → Operand → List Stripe → List Stripe
+differenceStripes L d i (variable o) ss = cond (eqb d i || eqb d o) (dropped d ss) (stripe i 1 d o 0 0 ∷ dropped d ss)
+differenceStripes L d i (number c) ss = byNumber L d i 0 c ss
 
 -- MULW where nothing wraps: d − c × i ≥ 0 for a number c that can be a scale
-abbrev pub productStripes : ℕ → ℕ → Operand → List Stripe → List Stripe
-productStripes d i (variable o) ss = dropped d ss
-productStripes d i (number c) ss =
-    cond (leb 1 c && leb c greatestScale && not (eqb d i)) (stripe d c i blankVariable 0 0 ∷ dropped d ss) (dropped d ss)
+abbrev pub productStripes : StripeLimits → ℕ → ℕ → Operand → List Stripe → List Stripe
+productStripes L d i (variable o) ss = dropped d ss
+productStripes L d i (number c) ss =
+    cond (leb 1 c && leb c (L .scale) && not (eqb d i)) (stripe d c i blankVariable 0 0 ∷ dropped d ss) (dropped d ss)
 
 -- BLTU taken: o − i ≥ 1
 abbrev pub lessStripes : ℕ → Operand → List Stripe → List Stripe
@@ -219,29 +219,29 @@ equalStripes i (variable o) ss = apart o i 0 0 ∷ apart i o 0 0 ∷ ss
 equalStripes i (number c) ss = ss
 
 -- the stripes along an edge of an instruction, with the ranges before the step
-unfoldable pub stripesAlong : Edge → Instruction → List Range → List Stripe → List Stripe
+unfoldable pub stripesAlong : StripeLimits → Edge → Instruction → List Range → List Stripe → List Stripe
 unfolding kept
-stripesAlong e Stop rs ss = ss
-stripesAlong e (Setc d c) rs ss = dropped d ss
-stripesAlong e (Copy d i) rs ss = cond (eqb d i) ss (apart d i 0 0 ∷ apart i d 0 0 ∷ dropped d ss)
-stripesAlong e (Addw d i o) rs ss = cond (sumFits (rangeOf rs i) (operandRange rs o)) (sumStripes d i o ss) (dropped d ss)
-stripesAlong e (Subw d i o) rs ss =
-    cond (differenceFits (rangeOf rs i) (operandRange rs o)) (differenceStripes d i o ss) (dropped d ss)
-stripesAlong e (Mulw d i o) rs ss = cond (productFits (rangeOf rs i) (operandRange rs o)) (productStripes d i o ss) (dropped d ss)
-stripesAlong e (Divf d i o) rs ss = dropped d ss
-stripesAlong e (Load d w b a i k) rs ss = dropped d ss
-stripesAlong e (Stor v w a i k) rs ss = ss
-stripesAlong e (Jump t) rs ss = ss
-stripesAlong Next (Bltu i t o) rs ss = notLessStripes i o ss
-stripesAlong (Target u) (Bltu i t o) rs ss = lessStripes i o ss
-stripesAlong Next (Bequ i t o) rs ss = ss
-stripesAlong (Target u) (Bequ i t o) rs ss = equalStripes i o ss
-stripesAlong e (Divm q i r o) rs ss = dropped r (dropped q ss)
+stripesAlong L e Stop rs ss = ss
+stripesAlong L e (Setc d c) rs ss = dropped d ss
+stripesAlong L e (Copy d i) rs ss = cond (eqb d i) ss (apart d i 0 0 ∷ apart i d 0 0 ∷ dropped d ss)
+stripesAlong L e (Addw d i o) rs ss = cond (sumFits (rangeOf rs i) (operandRange rs o)) (sumStripes L d i o ss) (dropped d ss)
+stripesAlong L e (Subw d i o) rs ss =
+    cond (differenceFits (rangeOf rs i) (operandRange rs o)) (differenceStripes L d i o ss) (dropped d ss)
+stripesAlong L e (Mulw d i o) rs ss = cond (productFits (rangeOf rs i) (operandRange rs o)) (productStripes L d i o ss) (dropped d ss)
+stripesAlong L e (Divf d i o) rs ss = dropped d ss
+stripesAlong L e (Load d w b a i k) rs ss = dropped d ss
+stripesAlong L e (Stor v w a i k) rs ss = ss
+stripesAlong L e (Jump t) rs ss = ss
+stripesAlong L Next (Bltu i t o) rs ss = notLessStripes i o ss
+stripesAlong L (Target u) (Bltu i t o) rs ss = lessStripes i o ss
+stripesAlong L Next (Bequ i t o) rs ss = ss
+stripesAlong L (Target u) (Bequ i t o) rs ss = equalStripes i o ss
+stripesAlong L e (Divm q i r o) rs ss = dropped r (dropped q ss)
 
 -- what is known along an edge
-unfoldable pub factsAlong : Edge → Instruction → Facts → Facts
+unfoldable pub factsAlong : StripeLimits → Edge → Instruction → Facts → Facts
 unfolding rangesAlong stripesAlong
-factsAlong e i f = record { ranges = rangesAlong e i (f .ranges); stripes = stripesAlong e i (f .ranges) (f .stripes) }
+factsAlong L e i f = record { ranges = rangesAlong e i (f .ranges); stripes = stripesAlong L e i (f .ranges) (f .stripes) }
 
 -- an edge is 'impossible' if a range along it is empty, else possible
 abbrev pub possible : Facts → Bool

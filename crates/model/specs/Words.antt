@@ -9,7 +9,7 @@ use mathlib.Core.List.{List, [], _∷_}
 use lib.ListN.{getD}
 use lib.Dec.{leb, ltb, eqb}
 use Rattle.model.specs.Types.{Field, Blank, Number, Negative, Misshapen, Word, STOP, SETC, COPY, ADDW, SUBW, MULW, DIVF, LOAD, STOR, JUMP, BLTU, BEQU, LEAS, MOST, STRP, DIVM, TURN, FoundWord, Unknown, Known, Content, aRegister, aVariable, aTarget, aWidth, aTable, aScale, anOffset, aNumber, aChoice, anOperand, aClaimed, aBound, Kind, empty, plain, optional, signed}
-use Rattle.model.specs.Limits.{registers, tables, variables, MAX, greatestSize, greatestScale, greatestOffset, greatestBound, greatestPoints}
+use Rattle.model.specs.Limits.{registers, tables, variables, MAX, greatestSize, greatestOffset, greatestPoints, StripeLimits}
 use Rattle.model.specs.Text.{valueIn}
 
 -- the bytes of a text
@@ -104,25 +104,26 @@ shaped (signed c) (Number v) = true
 shaped (signed c) (Negative v) = not (eqb v 0)
 shaped (signed c) Misshapen = false
 
--- the limits of a content; of a bound they are the same with and without a minus. f1 and f5 are the numbers of the line's F1 and F5
-unfoldable pub within : Content → ℕ → ℕ → ℕ → Bool
-within aRegister f1 f5 v = ltb v registers
-within aVariable f1 f5 v = ltb v variables
-within aTarget f1 f5 v = ltb v greatestPoints
-within aWidth f1 f5 v = eqb v 1 || eqb v 2 || eqb v 4
-within aTable f1 f5 v = ltb v tables
-within aScale f1 f5 v = leb 1 v && leb v greatestScale
-within anOffset f1 f5 v = leb v greatestOffset
-within aNumber f1 f5 v = leb v MAX
-within aChoice f1 f5 v = leb v 1
-within anOperand f1 f5 v = cond (eqb f5 0) (ltb v variables) (leb v MAX)
-within aClaimed f1 f5 v = cond (ltb f1 registers) (leb v MAX) (leb v greatestSize)
-within aBound f1 f5 v = leb v greatestBound
+module _ (L : StripeLimits) where
+  -- the limits of a content; of a bound they are the same with and without a minus. f1 and f5 are the numbers of the line's F1 and F5
+  unfoldable pub within : Content → ℕ → ℕ → ℕ → Bool
+  within aRegister f1 f5 v = ltb v registers
+  within aVariable f1 f5 v = ltb v variables
+  within aTarget f1 f5 v = ltb v greatestPoints
+  within aWidth f1 f5 v = eqb v 1 || eqb v 2 || eqb v 4
+  within aTable f1 f5 v = ltb v tables
+  within aScale f1 f5 v = leb 1 v && leb v (L .scale)
+  within anOffset f1 f5 v = leb v greatestOffset
+  within aNumber f1 f5 v = leb v MAX
+  within aChoice f1 f5 v = leb v 1
+  within anOperand f1 f5 v = cond (eqb f5 0) (ltb v variables) (leb v MAX)
+  within aClaimed f1 f5 v = cond (ltb f1 registers) (leb v MAX) (leb v greatestSize)
+  within aBound f1 f5 v = leb v (L .bound)
 
--- a field of this kind lies within its limits: those of its number, and none where it may be blank and is
-unfoldable pub allowed : Kind → ℕ → ℕ → Field → Bool
-unfolding within shaped
-allowed empty f1 f5 f = true
-allowed (plain c) f1 f5 f = within c f1 f5 (valueIn f)
-allowed (optional c) f1 f5 f = shaped empty f || within c f1 f5 (valueIn f)
-allowed (signed c) f1 f5 f = within c f1 f5 (valueIn f)
+  -- a field of this kind lies within its limits: those of its number, and none where it may be blank and is
+  unfoldable pub allowed : Kind → ℕ → ℕ → Field → Bool
+  unfolding within shaped
+  allowed empty f1 f5 f = true
+  allowed (plain c) f1 f5 f = within c f1 f5 (valueIn f)
+  allowed (optional c) f1 f5 f = shaped empty f || within c f1 f5 (valueIn f)
+  allowed (signed c) f1 f5 f = within c f1 f5 (valueIn f)

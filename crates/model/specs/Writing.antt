@@ -9,7 +9,7 @@ use mathlib.Core.Logic.{_⊎_}
 use lib.ListN.{length, getD, take, drop}
 use lib.Dec.{leb, eqb}
 use Rattle.model.specs.Types.{Field, FoundWord, Unknown, Line, refusedLine, claimLine, instructionLine, NoRoom, Judgement, Accepted, refused}
-use Rattle.model.specs.Limits.{lineBytes, greatestLines}
+use Rattle.model.specs.Limits.{lineBytes, greatestLines, today}
 use Rattle.model.specs.Answers.{_andThen_}
 use Rattle.model.specs.Words.{words, wordAmong}
 use Rattle.model.specs.Lines.{fieldsIn, judged, readLine, lineSet}
@@ -27,7 +27,7 @@ roomFor n size = cond (leb 1 n && leb n greatestLines && leb (n * lineBytes) siz
 -- what turns the call back: 3, 4, 5 and 19, then 18
 unfoldable pub lineJudged : List ℕ → List Field → ℕ → List ℕ → Judgement
 unfolding wordOf judged roomFor
-lineJudged t fs n s = judged n (wordOf t) fs andThen roomFor n (length s)
+lineJudged t fs n s = judged today n (wordOf t) fs andThen roomFor n (length s)
 
 -- a listing with line k, counted from 0, set to the four bytes of a word and six fields
 unfoldable pub withLine : List ℕ → ℕ → List ℕ → List Field → List ℕ
@@ -60,7 +60,7 @@ OutsideLine n j = (j < (n - 1) * lineBytes) ⊎ (n * lineBytes ≤ j)
 
 -- line n is read as the word and the fields that were given, and no byte outside it moved
 pub record ReadBack (t : List ℕ) (fs : List Field) (n : ℕ) (s : List ℕ) : Type 0 where
-  pub taken : (place : ℕ) → isTaken (readLine place (lineAfter t fs n s)) ≡ true
+  pub taken : (place : ℕ) → isTaken (readLine today place (lineAfter t fs n s)) ≡ true
   pub word : wordAmong words (lineAfter t fs n s) ≡ wordOf t
   pub fields : fieldsIn (lineAfter t fs n s) ≡ fs
   pub size : length (listingSet t fs n s) ≡ length s
@@ -73,6 +73,6 @@ WrittenIsRead = (t : List ℕ) (fs : List Field) (n : ℕ) (s : List ℕ) → le
 -- the second law: a line that the reader takes is, whatever stood in its place, the line that the call writes for its word and fields
 abbrev pub ReadIsWritten : Type 0
 ReadIsWritten =
-    (place : ℕ) (l : List ℕ) → length l ≡ lineBytes → isTaken (readLine place l) ≡ true →
+    (place : ℕ) (l : List ℕ) → length l ≡ lineBytes → isTaken (readLine today place l) ≡ true →
     (n : ℕ) (s : List ℕ) → roomFor n (length s) ≡ Accepted →
     (lineJudged (take 4 l) (fieldsIn l) n s ≡ Accepted) × (lineAfter (take 4 l) (fieldsIn l) n s ≡ l)

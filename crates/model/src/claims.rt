@@ -60,7 +60,7 @@ impl Range {
 // The claim x - a * (y + z) >= plus - minus. A blank z is the number of variables, one past the last.
 pub struct Stripe {
     pub x: u8,
-    pub a: u8,
+    pub a: u16,
     pub y: u8,
     pub z: u8,
     pub plus: u64,

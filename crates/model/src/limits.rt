@@ -30,13 +30,13 @@ pub const MODULUS: u64 = 4_294_967_296;
 pub const GREATEST_SIZE: u64 = 65_536;
 
 // The greatest scale of a stripe or an access.
-pub const GREATEST_SCALE: u64 = 255;
+pub const GREATEST_SCALE: u64 = 4_095;
 
 // The greatest offset of an access.
 pub const GREATEST_OFFSET: u64 = 65_535;
 
 // The greatest bound of a stripe, with or without a minus.
-pub const GREATEST_BOUND: u64 = 4_398_046_511_104;
+pub const GREATEST_BOUND: u64 = 70_368_744_177_664;
 
 // The greatest number of points; targets lie below it.
 pub const GREATEST_POINTS: usize = 512;

@@ -12,6 +12,7 @@ use Rattle.model.specs.declared.machine.Edge.{Edge}
 use Rattle.model.specs.declared.machine.Edge.the-variants.{Next, Target}
 use Rattle.model.specs.declared.answers.Judgement.{Judgement}
 use Rattle.model.specs.declared.answers.Judgement.the-variants.{Accepted, Refused as refused}
+use Rattle.model.specs.Limits.{today}
 use Rattle.model.specs.Answers.{_andThen_}
 use Rattle.model.specs.Facts.{Facts, factsOf}
 use Rattle.model.specs.Instructions.{targets, goesOn, hasTarget}
@@ -55,24 +56,24 @@ module _ (rows at : List ℕ) (n p : ℕ) (holds : Holds rows at n) (inside : p 
 
   -- 14 along an edge to point t
   abbrev edge : Edge → ℕ → Judgement
-  edge e t = claimsJudged (q .line) (factsAlong e i (factsOf (q .claims))) (pointIn rows at t)
+  edge e t = claimsJudged (q .line) (factsAlong today e i (factsOf (q .claims))) (pointIn rows at t)
 
   -- 14 along the edge to the next point, where there is one
   abbrev next : Judgement
   next = cond (goesOn i) (edge Next (p + 1)) Accepted
 
   abbrev whole : Judgement
-  whole = owedJudged (pointsIn rows at n) p q
+  whole = owedJudged today (pointsIn rows at n) p q
 
   abbrev along : List Edge → Judgement
-  along es = edgesJudged (pointsIn rows at n) p q es
+  along es = edgesJudged today (pointsIn rows at n) p q es
 
   whole-is : whole ≡ (safe andThen (next andThen along (map Target (targets i))))
   unfolding owedJudged
   whole-is = ap (λ (j : Judgement). safe andThen j) (go (goesOn i) (holds .next p inside))
     where
       go : (b : Bool) → (b ≡ true → p + 1 < n) → along (cond b (Next ∷ []) [] ++ map Target (targets i)) ≡ (cond b (edge Next (p + 1)) Accepted andThen along (map Target (targets i)))
-      go true on = ap (λ (x : Point). claimsJudged (q .line) (factsAlong Next i (factsOf (q .claims))) x andThen along (map Target (targets i))) (points-at rows at n (p + 1) (on refl))
+      go true on = ap (λ (x : Point). claimsJudged (q .line) (factsAlong today Next i (factsOf (q .claims))) x andThen along (map Target (targets i))) (points-at rows at n (p + 1) (on refl))
       go false on = refl
 
   -- what the code looks up and writes
@@ -80,7 +81,7 @@ module _ (rows at : List ℕ) (n p : ℕ) (holds : Holds rows at n) (inside : p 
     safe-is : s ≡ safe
     safe-is = safety ∙ rw (line-is, facts, instruction)
 
-    edge-is : (e : Edge) (t : ℕ) → claimsJudged line (factsAlong e k f) (pointIn rows at t) ≡ edge e t
+    edge-is : (e : Edge) (t : ℕ) → claimsJudged line (factsAlong today e k f) (pointIn rows at t) ≡ edge e t
     edge-is e t = rw (line-is, facts, instruction)
 
     -- the next point and the target have places
@@ -94,7 +95,7 @@ module _ (rows at : List ℕ) (n p : ℕ) (holds : Holds rows at n) (inside : p 
     pub by-safety : isRefused s ≡ true → s ≡ whole
     by-safety r = safe-is ∙ sym (whole-is ∙ stays-refused safe _ (ap isRefused (sym safe-is) ∙ r))
 
-    module _ (ok : isRefused s ≡ false) (b : Bool) (goes : b ≡ goesOn k) (j : Judgement) (judged : j ≡ cond b (claimsJudged line (factsAlong Next k f) (pointIn rows at (p + 1))) Accepted) where
+    module _ (ok : isRefused s ≡ false) (b : Bool) (goes : b ≡ goesOn k) (j : Judgement) (judged : j ≡ cond b (claimsJudged line (factsAlong today Next k f) (pointIn rows at (p + 1))) Accepted) where
       next-is : j ≡ next
       next-is = judged ∙ ap₂ (λ (x : Bool) (y : Judgement). cond x y Accepted) (goes ∙ ap goesOn instruction) (edge-is Next (p + 1))
 
@@ -111,35 +112,35 @@ module _ (rows at : List ℕ) (n p : ℕ) (holds : Holds rows at n) (inside : p 
 
       -- by the claims of the target, with the facts of the point written again
       pub by-target : isRefused j ≡ false → (g : Facts) → g ≡ factsOf (q .claims) → (t : ℕ) → targets i ≡ t ∷ []
-          → (x : Judgement) → x ≡ claimsJudged line (factsAlong (Target t) k g) (pointIn rows at t) → x ≡ whole
+          → (x : Judgement) → x ≡ claimsJudged line (factsAlong today (Target t) k g) (pointIn rows at t) → x ≡ whole
       by-target r g again t own x is =
-          is ∙ ap (λ (y : Facts). claimsJudged line (factsAlong (Target t) k y) (pointIn rows at t)) (again ∙ sym facts) ∙ edge-is (Target t) t
-          ∙ sym (rest-is ∙ rw (accepted j r, own) (then-accepted _ ∙ ap (λ (y : Point). claimsJudged (q .line) (factsAlong (Target t) i (factsOf (q .claims))) y) (points-at rows at n t (holds .target p t inside own))))
+          is ∙ ap (λ (y : Facts). claimsJudged line (factsAlong today (Target t) k y) (pointIn rows at t)) (again ∙ sym facts) ∙ edge-is (Target t) t
+          ∙ sym (rest-is ∙ rw (accepted j r, own) (then-accepted _ ∙ ap (λ (y : Point). claimsJudged (q .line) (factsAlong today (Target t) i (factsOf (q .claims))) y) (points-at rows at n t (holds .target p t inside own))))
 
 -- the points in order
-pub points-none : (ps : List Point) → pointsJudged ps 0 ≡ Accepted
+pub points-none : (ps : List Point) → pointsJudged today ps 0 ≡ Accepted
 unfolding pointsJudged
 points-none ps = refl
 
-points-next : (ps : List Point) (n : ℕ) → pointsJudged ps (suc n) ≡ (pointsJudged ps n andThen pointJudged ps n (pointAt ps n))
+points-next : (ps : List Point) (n : ℕ) → pointsJudged today ps (suc n) ≡ (pointsJudged today ps n andThen pointJudged today ps n (pointAt ps n))
 unfolding pointsJudged
 points-next ps n = refl
 
-module _ (rows at : List ℕ) (n p : ℕ) (inside : p < n) (j : Judgement) (before : pointsJudged (pointsIn rows at n) p ≡ Accepted) (is : j ≡ pointJudged (pointsIn rows at n) p (pointIn rows at p)) where
-  one-more : pointsJudged (pointsIn rows at n) (suc p) ≡ j
+module _ (rows at : List ℕ) (n p : ℕ) (inside : p < n) (j : Judgement) (before : pointsJudged today (pointsIn rows at n) p ≡ Accepted) (is : j ≡ pointJudged today (pointsIn rows at n) p (pointIn rows at p)) where
+  one-more : pointsJudged today (pointsIn rows at n) (suc p) ≡ j
   one-more =
-      points-next (pointsIn rows at n) p ∙ ap (λ (x : Judgement). x andThen pointJudged (pointsIn rows at n) p (pointAt (pointsIn rows at n) p)) before
-      ∙ ap (pointJudged (pointsIn rows at n) p) (points-at rows at n p inside) ∙ sym is
+      points-next (pointsIn rows at n) p ∙ ap (λ (x : Judgement). x andThen pointJudged today (pointsIn rows at n) p (pointAt (pointsIn rows at n) p)) before
+      ∙ ap (pointJudged today (pointsIn rows at n) p) (points-at rows at n p inside) ∙ sym is
 
-  pub accepted-next : isRefused j ≡ false → pointsJudged (pointsIn rows at n) (p + 1) ≡ Accepted
-  accepted-next r = ap (pointsJudged (pointsIn rows at n)) (add-one p) ∙ one-more ∙ accepted j r
+  pub accepted-next : isRefused j ≡ false → pointsJudged today (pointsIn rows at n) (p + 1) ≡ Accepted
+  accepted-next r = ap (pointsJudged today (pointsIn rows at n)) (add-one p) ∙ one-more ∙ accepted j r
 
-  pub refused-all : isRefused j ≡ true → j ≡ pointsJudged (pointsIn rows at n) n
+  pub refused-all : isRefused j ≡ true → j ≡ pointsJudged today (pointsIn rows at n) n
   refused-all r = go j refl r
     where
       rest : suc p + (n - suc p) ≡ n
       rest = omega arith
 
-      go : (x : Judgement) → j ≡ x → isRefused x ≡ true → j ≡ pointsJudged (pointsIn rows at n) n
+      go : (x : Judgement) → j ≡ x → isRefused x ≡ true → j ≡ pointsJudged today (pointsIn rows at n) n
       go Accepted e k = absurd (false≢true k)
-      go (refused x) e k = e ∙ sym (refused-stays (pointsIn rows at n) x (suc p) (n - suc p) (one-more ∙ e)) ∙ ap (pointsJudged (pointsIn rows at n)) rest
+      go (refused x) e k = e ∙ sym (refused-stays (pointsIn rows at n) x (suc p) (n - suc p) (one-more ∙ e)) ∙ ap (pointsJudged today (pointsIn rows at n)) rest

@@ -14,7 +14,7 @@ use reader::places::first_of;
 ghost use mathlib.Core.Path.{_≡_};
 ghost use mathlib.Core.Bool.{true, cond};
 ghost use Prim.Native.Nat.{_+_, _≤_};
-ghost use Rattle.model.specs.Limits.{greatestLines};
+ghost use Rattle.model.specs.Limits.{greatestLines, today};
 ghost use Rattle.model.specs.declared.answers.Judgement.the-variants.{Accepted};
 ghost use Rattle.model.specs.Facts as Model;
 ghost use Rattle.model.specs.Transfer.{factsAlong};
@@ -73,7 +73,7 @@ pub(crate) fn edge_judged<'a>(
     requires { ⌜ AtPoint (now low) (now high) (now stripes) m ⌝ }
     requires { ⌜ Limited i ⌝ }
     requires { ⌜ SizedRows (now «edge_stripes») ⌝ }
-    ensures { λ r. ⌜ r ≡ cond there (claimsJudged line (factsAlong e i (known (now (low .entry)) (now (high .entry)) (now (stripes .entry)) m)) (pointIn (now (rows .entry)) (now (at .entry)) t)) Accepted ⌝ }
+    ensures { λ r. ⌜ r ≡ cond there (claimsJudged line (factsAlong today e i (known (now (low .entry)) (now (high .entry)) (now (stripes .entry)) m)) (pointIn (now (rows .entry)) (now (at .entry)) t)) Accepted ⌝ }
     ensures { λ r. ⌜ SizedRows (now («edge_stripes» .exit)) ⌝ }
 {
     if !there {

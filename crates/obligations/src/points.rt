@@ -17,7 +17,7 @@ use reader::whole::goes_on;
 ghost use mathlib.Core.Path.{_≡_};
 ghost use Prim.Native.Nat.{_<_};
 ghost use lib.ListN.{length};
-ghost use Rattle.model.specs.Limits.{variables};
+ghost use Rattle.model.specs.Limits.{variables, today};
 ghost use Rattle.model.specs.Facts.{factsOf};
 ghost use Rattle.model.specs.Listing.{Point, isEmpty};
 ghost use Rattle.model.specs.Check;
@@ -41,7 +41,7 @@ fn owed_judged<'a>(
     requires { ⌜ known (now low) (now high) (now stripes) m ≡ factsOf (pointIn (now rows) (now at) p .claims) ⌝ }
     requires { ⌜ AtPoint (now low) (now high) (now stripes) m ⌝ }
     requires { ⌜ SizedRows (now «edge_stripes») ⌝ }
-    ensures { λ r. ⌜ r ≡ Check.owedJudged (pointsIn (now (rows .entry)) (now (at .entry)) n) p (pointIn (now (rows .entry)) (now (at .entry)) p) ⌝ }
+    ensures { λ r. ⌜ r ≡ Check.owedJudged today (pointsIn (now (rows .entry)) (now (at .entry)) n) p (pointIn (now (rows .entry)) (now (at .entry)) p) ⌝ }
     ensures { λ r. ⌜ Standing (now (stripes .exit)) 0 × SizedRows (now («edge_stripes» .exit)) ⌝ }
 {
     let r = instruction_row(rows, at, p);
@@ -113,7 +113,7 @@ fn point_judged<'a>(
 ) -> Judgement
     requires { ⌜ Holds (now rows) (now at) n × (p < n) ⌝ }
     requires { ⌜ Standing (now stripes) 0 × SizedRows (now «edge_stripes») ⌝ }
-    ensures { λ r. ⌜ r ≡ Check.pointJudged (pointsIn (now (rows .entry)) (now (at .entry)) n) p (pointIn (now (rows .entry)) (now (at .entry)) p) ⌝ }
+    ensures { λ r. ⌜ r ≡ Check.pointJudged today (pointsIn (now (rows .entry)) (now (at .entry)) n) p (pointIn (now (rows .entry)) (now (at .entry)) p) ⌝ }
     ensures { λ r. ⌜ Standing (now (stripes .exit)) 0 × SizedRows (now («edge_stripes» .exit)) ⌝ }
 {
     let m = facts_at(rows, at, p, low, high, stripes);
@@ -126,7 +126,7 @@ fn point_judged<'a>(
 // 12 to 14 over n points, in order.
 pub fn points_judged<'a>(rows: &'a [u64], at: &'a [u16], n: usize) -> Judgement
     requires { ⌜ Holds (now rows) (now at) n ⌝ }
-    ensures { λ r. ⌜ r ≡ Check.pointsJudged (pointsIn (now (rows .entry)) (now (at .entry)) n) n ⌝ }
+    ensures { λ r. ⌜ r ≡ Check.pointsJudged today (pointsIn (now (rows .entry)) (now (at .entry)) n) n ⌝ }
 {
     let mut low = [0u64; VARIABLES];
     let mut high = [0u64; VARIABLES];

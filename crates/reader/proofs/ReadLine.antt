@@ -13,6 +13,7 @@ use Rattle.model.specs.declared.answers.Refusal.{Refusal}
 use Rattle.model.specs.declared.answers.Refusal.the-variants.{LineBytes, UnknownWord}
 use Rattle.model.specs.declared.answers.Judgement.{Judgement}
 use Rattle.model.specs.declared.answers.Judgement.the-variants.{Accepted, Refused as refused}
+use Rattle.model.specs.Limits.{today}
 use Rattle.model.specs.Words.{words, wordAmong}
 use Rattle.model.specs.Lines.{F1, wellSpelled, fieldsIn, judged, lineFrom, lineOr, lineFound, readLine}
 use Rattle.lines.proofs.AcceptedFields.{accepted}
@@ -69,10 +70,10 @@ sort-from DIVM fs = refl
 sort-from TURN fs = refl
 
 module _ (place : ℕ) (w : Word) (fs : List Field) (x : Read) where
-  line-as : (j : Judgement) (l : Line) → judged place (Known w) fs ≡ j → lineOr j (lineFrom w fs) ≡ l → ReadAs l x → ReadAs (lineOr (judged place (Known w) fs) (lineFrom w fs)) x
+  line-as : (j : Judgement) (l : Line) → judged today place (Known w) fs ≡ j → lineOr j (lineFrom w fs) ≡ l → ReadAs l x → ReadAs (lineOr (judged today place (Known w) fs) (lineFrom w fs)) x
   line-as j l e f h = subst (λ (y : Line). ReadAs y x) (sym (ap (λ (i : Judgement). lineOr i (lineFrom w fs)) e ∙ f)) h
 
-  pub known-accepted : judged place (Known w) fs ≡ Accepted → x .row ≡ rowOf w fs → x .sort ≡ sortFrom w (x .row .first) → ReadAs (lineOr (judged place (Known w) fs) (lineFrom w fs)) x
+  pub known-accepted : judged today place (Known w) fs ≡ Accepted → x .row ≡ rowOf w fs → x .sort ≡ sortFrom w (x .row .first) → ReadAs (lineOr (judged today place (Known w) fs) (lineFrom w fs)) x
   known-accepted e r s =
       let ok = accepted place w fs e in
       line-as Accepted (lineFrom w fs) e refl (record {
@@ -80,17 +81,17 @@ module _ (place : ℕ) (w : Word) (fs : List Field) (x : Read) where
         sort = s ∙ ap (λ (y : Row). sortFrom w (y .first)) r ∙ sort-from w fs;
       })
 
-  pub known-refused : (r : Refusal) → judged place (Known w) fs ≡ refused r → ReadAs (refusedLine r) x → ReadAs (lineOr (judged place (Known w) fs) (lineFrom w fs)) x
+  pub known-refused : (r : Refusal) → judged today place (Known w) fs ≡ refused r → ReadAs (refusedLine r) x → ReadAs (lineOr (judged today place (Known w) fs) (lineFrom w fs)) x
   known-refused r e h = line-as (refused r) (refusedLine r) e refl h
 
-pub unknown-line : (place : ℕ) (fs : List Field) → lineFound place Unknown fs ≡ refusedLine (UnknownWord place)
+pub unknown-line : (place : ℕ) (fs : List Field) → lineFound today place Unknown fs ≡ refusedLine (UnknownWord place)
 unfolding judged
 unknown-line place fs = refl
 
-pub spelled : (place : ℕ) (l : List ℕ) → wellSpelled l ≡ true → readLine place l ≡ lineFound place (wordAmong words l) (fieldsIn l)
+pub spelled : (place : ℕ) (l : List ℕ) → wellSpelled l ≡ true → readLine today place l ≡ lineFound today place (wordAmong words l) (fieldsIn l)
 unfolding readLine
 spelled place l e = rw e
 
-pub misspelled : (place : ℕ) (l : List ℕ) → wellSpelled l ≡ false → readLine place l ≡ refusedLine (LineBytes place)
+pub misspelled : (place : ℕ) (l : List ℕ) → wellSpelled l ≡ false → readLine today place l ≡ refusedLine (LineBytes place)
 unfolding readLine
 misspelled place l e = rw e

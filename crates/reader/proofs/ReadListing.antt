@@ -13,10 +13,10 @@ use Rattle.model.specs.declared.answers.Refusal.{Refusal}
 use Rattle.model.specs.declared.answers.Refusal.the-variants.{ListingLength, NoSuchTarget}
 use Rattle.model.specs.declared.answers.Judgement.{Judgement}
 use Rattle.model.specs.declared.answers.Judgement.the-variants.{Accepted, Refused as refused}
-use Rattle.model.specs.Limits.{lineBytes, greatestListing, greatestPoints, greatestLines}
+use Rattle.model.specs.Limits.{lineBytes, greatestListing, greatestPoints, greatestLines, today}
 use Rattle.model.specs.Answers.{_andThen_}
 use Rattle.model.specs.Instructions.{targets, goesOn}
-use Rattle.model.specs.Listing.{Point, pointAt, targetsExist, endsWithInstruction, fewPoints, allTargetsExist, endsInPlace, startsNonEmpty, wholeJudged, Reading, going, refusedReading, readTo, refusedListing, listingOr, listingFrom, goodLength, listingOf}
+use Rattle.model.specs.Listing.{Point, pointAt, targetsExist, endsWithInstruction, fewPoints, allTargetsExist, endsInPlace, startsNonEmpty, wholeJudged, Reading, going, refusedReading, readTo, refusedListing, listingOr, listingFrom, goodLength, listingOf, listingWithin}
 use Rattle.model.proofs.Tests.{and-left, and-right}
 use Rattle.model.proofs.Steps.{targets-at}
 use Rattle.model.proofs.Reading.{both-accepted, test-passed, WellFormed, well-formed}
@@ -78,19 +78,19 @@ module _ (rows at : List ℕ) (lines : ℕ) (ps : List Point) (cs : List Claim) 
   points-same = points-are rows at ps same
 
 -- the whole listing, whose lines were all read
-module _ (s : List ℕ) (lines : ℕ) (good : listingOf s ≡ listingFrom lines (readTo s lines)) (l : Listing) (rows at : List ℕ) where
-  pub stands-turned : (r : Refusal) → progressOf (readTo s lines) ≡ Turned r → l .judgement ≡ refused r → Stands (listingOf s) l rows at
-  stands-turned r e j = rw good (go (readTo s lines) e)
+module _ (s : List ℕ) (lines : ℕ) (good : listingOf s ≡ listingFrom lines (readTo today s lines)) (l : Listing) (rows at : List ℕ) where
+  pub stands-turned : (r : Refusal) → progressOf (readTo today s lines) ≡ Turned r → l .judgement ≡ refused r → Stands (listingOf s) l rows at
+  stands-turned r e j = rw good (go (readTo today s lines) e)
     where
       go : (x : Reading) → progressOf x ≡ Turned r → Stands (listingFrom lines x) l rows at
       go (refusedReading x) p = let same : r ≡ x = cc in j ∙ ap refused same
       go (going ps cs) p = let z : _≡_ {A = ℕ} 0 1 = cc in absurd (omega arith)
 
-  pub stands-going : (q : Scan) → ScannedSo rows at lines (readTo s lines) → progressOf (readTo s lines) ≡ Going q
+  pub stands-going : (q : Scan) → ScannedSo rows at lines (readTo today s lines) → progressOf (readTo today s lines) ≡ Going q
       → ((ps : List Point) (cs : List Claim) → Scanned rows at lines ps cs → q ≡ scanOf ps cs → l .judgement ≡ wholeJudged lines ps cs) → l .count ≡ q .points → Stands (listingOf s) l rows at
-  stands-going q h e j n = go (readTo s lines) refl h e
+  stands-going q h e j n = go (readTo today s lines) refl h e
     where
-      go : (x : Reading) → readTo s lines ≡ x → ScannedSo rows at lines x → progressOf x ≡ Going q → Stands (listingOf s) l rows at
+      go : (x : Reading) → readTo today s lines ≡ x → ScannedSo rows at lines x → progressOf x ≡ Going q → Stands (listingOf s) l rows at
       go (refusedReading x) r h p = let z : _≡_ {A = ℕ} 0 1 = cc in absurd (omega arith)
       go (going ps cs) r h p =
           let is : q ≡ scanOf ps cs = cc in
@@ -107,12 +107,12 @@ module _ (s : List ℕ) (lines : ℕ) (good : listingOf s ≡ listingFrom lines 
               rw (read Accepted w, b) (a ∙ w, points-same rows at lines ps cs h few formed, points-held rows at lines ps cs h few formed)
           whole (refused x) w a b = rw (read (refused x) w) (a ∙ w)
 
-pub listing-good : (s : List ℕ) → goodLength (length s) ≡ true → listingOf s ≡ listingFrom (length s / lineBytes) (readTo s (length s / lineBytes))
-unfolding listingOf
+pub listing-good : (s : List ℕ) → goodLength (length s) ≡ true → listingOf s ≡ listingFrom (length s / lineBytes) (readTo today s (length s / lineBytes))
+unfolding listingWithin
 listing-good s e = rw e
 
 pub listing-bad : (s : List ℕ) → goodLength (length s) ≡ false → listingOf s ≡ refusedListing ListingLength
-unfolding listingOf
+unfolding listingWithin
 listing-bad s e = rw e
 
 -- a good length has at least one line and not too many, and no byte left over

@@ -18,7 +18,7 @@ use Rattle.model.specs.declared.claims.Line.{Line}
 use Rattle.model.specs.declared.claims.Line.the-variants.{Refused as refusedLine, Claim as claimLine, Instruction as instructionLine}
 use Rattle.model.specs.declared.answers.Refusal.{Refusal}
 use Rattle.model.specs.declared.answers.Refusal.the-variants.{ClaimOrder}
-use Rattle.model.specs.Limits.{lineBytes, greatestPoints, greatestStripes, greatestLines}
+use Rattle.model.specs.Limits.{lineBytes, greatestPoints, greatestStripes, greatestLines, today}
 use Rattle.model.specs.Limited.{Limited, ClaimLimited, LineLimited}
 use Rattle.model.specs.Lines.{readLine}
 use Rattle.model.specs.Listing.{Point, lineAt, pointAt, mayFollowAll, stripesAmong, inOrder, Reading, going, refusedReading, afterLine, readTo}
@@ -41,7 +41,7 @@ use Rattle.reader.proofs.LineOrder.{stripes-cons, stripes-snoc, after-s
 
 -- the k-th line, read
 abbrev pub lineRead : List ℕ → ℕ → Line
-lineRead s k = readLine (k + 1) (lineAt s k)
+lineRead s k = readLine today (k + 1) (lineAt s k)
 
 -- what is written in row n leaves the rows before it
 module _ (rows : List ℕ) (n : ℕ) (r : Row) where
@@ -241,38 +241,38 @@ within rows at n (going ps cs) h = (h .points, h .claims, subst (λ (l : List Cl
 within rows at n (refusedReading r) h = tt
 
 module _ (s : List ℕ) (n : ℕ) where
-  read-next : readTo s (suc n) ≡ afterLine (readTo s n) n (lineRead s n)
+  read-next : readTo today s (suc n) ≡ afterLine (readTo today s n) n (lineRead s n)
   unfolding readTo
   read-next = refl
 
-  pub progress-next : progressOf (readTo s (suc n)) ≡ afterScan (progressOf (readTo s n)) n (sortOf (lineRead s n))
-  progress-next = ap progressOf read-next ∙ after-same (readTo s n) n (lineRead s n)
+  pub progress-next : progressOf (readTo today s (suc n)) ≡ afterScan (progressOf (readTo today s n)) n (sortOf (lineRead s n))
+  progress-next = ap progressOf read-next ∙ after-same (readTo today s n) n (lineRead s n)
 
-  pub lines-next : (rows at : List ℕ) (p : Progress) (r : Row) → p ≡ progressOf (readTo s n) → lineOfRow r ≡ kept (lineRead s n) → n * 8 + 8 ≤ length rows → n < greatestLines → length at ≡ placeNumbers
-      → ScannedSo rows at n (readTo s n) → ScannedSo (withRow rows n r) (noted at p n (sortOf (lineRead s n))) (suc n) (readTo s (suc n))
+  pub lines-next : (rows at : List ℕ) (p : Progress) (r : Row) → p ≡ progressOf (readTo today s n) → lineOfRow r ≡ kept (lineRead s n) → n * 8 + 8 ≤ length rows → n < greatestLines → length at ≡ placeNumbers
+      → ScannedSo rows at n (readTo today s n) → ScannedSo (withRow rows n r) (noted at p n (sortOf (lineRead s n))) (suc n) (readTo today s (suc n))
   lines-next rows at p r is e room short long h =
-      rw (is, read-next) (scanned-next rows at n (readTo s n) (lineRead s n) r e (read-limited (n + 1) (lineAt s n)) room short long h)
+      rw (is, read-next) (scanned-next rows at n (readTo today s n) (lineRead s n) r e (read-limited (n + 1) (lineAt s n)) room short long h)
 
 -- a reading that is turned back stays so
 turned-is : (x : Reading) (r : Refusal) → progressOf x ≡ Turned r → x ≡ refusedReading r
 turned-is (refusedReading q) r e = let same : q ≡ r = cc in ap refusedReading same
 turned-is (going ps cs) r e = let z : _≡_ {A = ℕ} 0 1 = cc in absurd (omega arith)
 
-turned-stays : (s : List ℕ) (k : ℕ) (r : Refusal) → readTo s k ≡ refusedReading r → (d : ℕ) → readTo s (k + d) ≡ refusedReading r
-turned-stays s k r e zero = ap (readTo s) (add-zero k) ∙ e
+turned-stays : (s : List ℕ) (k : ℕ) (r : Refusal) → readTo today s k ≡ refusedReading r → (d : ℕ) → readTo today s (k + d) ≡ refusedReading r
+turned-stays s k r e zero = ap (readTo today s) (add-zero k) ∙ e
 turned-stays s k r e (suc d) =
     let more : k + suc d ≡ suc (k + d) = omega arith in
-    ap (readTo s) more ∙ read-next s (k + d) ∙ ap (λ (x : Reading). afterLine x (k + d) (lineRead s (k + d))) (turned-stays s k r e d)
+    ap (readTo today s) more ∙ read-next s (k + d) ∙ ap (λ (x : Reading). afterLine x (k + d) (lineRead s (k + d))) (turned-stays s k r e d)
 
 -- what is handed back where the first k of n lines are turned back
-pub turned-back : (s rows at : List ℕ) (k n : ℕ) (r : Refusal) → k ≤ n → progressOf (readTo s k) ≡ Turned r → (Turned r ≡ progressOf (readTo s n)) × ScannedSo rows at n (readTo s n)
+pub turned-back : (s rows at : List ℕ) (k n : ℕ) (r : Refusal) → k ≤ n → progressOf (readTo today s k) ≡ Turned r → (Turned r ≡ progressOf (readTo today s n)) × ScannedSo rows at n (readTo today s n)
 turned-back s rows at k n r h e =
     let whole : k + (n - k) ≡ n = omega arith in
-    let all : readTo s n ≡ refusedReading r = ap (readTo s) (sym whole) ∙ turned-stays s k r (turned-is (readTo s k) r e) (n - k) in
+    let all : readTo today s n ≡ refusedReading r = ap (readTo today s) (sym whole) ∙ turned-stays s k r (turned-is (readTo today s k) r e) (n - k) in
     rw all (refl, tt)
 
 -- the bytes that the code cuts out are the line
-pub line-read : (s : List ℕ) (k : ℕ) (x : Read) → ReadAs (readLine (k + 1) (take (k * lineBytes + lineBytes - k * lineBytes) (drop (k * lineBytes) s))) x → ReadAs (lineRead s k) x
+pub line-read : (s : List ℕ) (k : ℕ) (x : Read) → ReadAs (readLine today (k + 1) (take (k * lineBytes + lineBytes - k * lineBytes) (drop (k * lineBytes) s))) x → ReadAs (lineRead s k) x
 line-read s k x e = rw long at e
   where
     long : k * lineBytes + lineBytes - k * lineBytes ≡ lineBytes

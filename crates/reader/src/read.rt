@@ -25,7 +25,7 @@ ghost use lib.ListN.{length};
 ghost use Rattle.model.specs.declared.text.Field.{Field};
 ghost use Rattle.model.specs.declared.text.FoundWord.the-variants.{Known};
 ghost use Rattle.model.specs.declared.claims.Line.the-variants.{Refused as refusedLine};
-ghost use Rattle.model.specs.Limits.{lineBytes, greatestLines};
+ghost use Rattle.model.specs.Limits.{lineBytes, greatestLines, today};
 ghost use Rattle.model.specs.Lines.{judged, lineFrom, lineOr, lineFound, readLine};
 ghost use Rattle.model.specs.Listing.{readTo};
 ghost use Rattle.columns.specs.Kept.{keptFields};
@@ -76,7 +76,7 @@ fn sort_of(w: Word, v: u64) -> Sort
 
 // A line of a word with its fields, or what turns them back.
 fn read_known(place: usize, w: Word, k: KeptFields) -> Read
-    ensures { λ x. ⌜ ((fs : List Field) → k ≡ keptFields fs → ReadAs (lineOr (judged place (Known w) fs) (lineFrom w fs)) x) ⌝ }
+    ensures { λ x. ⌜ ((fs : List Field) → k ≡ keptFields fs → ReadAs (lineOr (judged today place (Known w) fs) (lineFrom w fs)) x) ⌝ }
 {
     match judge(place, FoundWord::Known(w), k) {
         Judgement::Refused(r) => refused(r),
@@ -90,7 +90,7 @@ fn read_known(place: usize, w: Word, k: KeptFields) -> Read
 
 // As above, or what turns a line without a known word back.
 fn read_found(place: usize, w: FoundWord, k: KeptFields) -> Read
-    ensures { λ x. ⌜ ((fs : List Field) → k ≡ keptFields fs → ReadAs (lineFound place w fs) x) ⌝ }
+    ensures { λ x. ⌜ ((fs : List Field) → k ≡ keptFields fs → ReadAs (lineFound today place w fs) x) ⌝ }
 {
     match w {
         FoundWord::Unknown => refused(Refusal::UnknownWord { line: place }),
@@ -101,7 +101,7 @@ fn read_found(place: usize, w: FoundWord, k: KeptFields) -> Read
 // A line with its number: what it holds, or what turns it back. The word is found last, right before its row of the table is chosen.
 fn read_bytes(place: usize, l: &[u8]) -> Read
     requires { ⌜ length (now l) ≡ lineBytes ⌝ }
-    ensures { λ x. ⌜ ReadAs (readLine place (now (l .entry))) x ⌝ }
+    ensures { λ x. ⌜ ReadAs (readLine today place (now (l .entry))) x ⌝ }
 {
     if is_well_spelled(l) {
         let k = read_fields(l);
@@ -116,8 +116,8 @@ pub(crate) fn read_lines(listing: &[u8], n: usize, rows: &mut [u64], at: &mut [u
     requires { ⌜ (n ≤ greatestLines) × (n * lineBytes ≤ length (now listing)) ⌝ }
     requires { ⌜ n * 8 ≤ length (now rows) ⌝ }
     requires { ⌜ length (now at) ≡ placeNumbers ⌝ }
-    ensures { λ r. ⌜ r ≡ progressOf (readTo (now (listing .entry)) n) ⌝ }
-    ensures { λ r. ⌜ ScannedSo (now (rows .exit)) (now (at .exit)) n (readTo (now (listing .entry)) n) ⌝ }
+    ensures { λ r. ⌜ r ≡ progressOf (readTo today (now (listing .entry)) n) ⌝ }
+    ensures { λ r. ⌜ ScannedSo (now (rows .exit)) (now (at .exit)) n (readTo today (now (listing .entry)) n) ⌝ }
 {
     let mut p = begin();
     let mut k = 0;

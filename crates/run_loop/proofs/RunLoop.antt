@@ -23,7 +23,7 @@ use Rattle.model.specs.Listing.{Point, pointAt, Listing, readAs, refusedListing
 use Rattle.model.specs.Machine.{Tables, lent, tableOf, sizesOf, Config, configOf, valuesFrom, Step, next, stopped, errorState, stepOf, stepAt, at, settled}
 use Rattle.model.specs.Check.{listingJudged}
 use Rattle.model.specs.Instructions.{isStop}
-use Rattle.model.specs.Run.{meetsClaims, stateJudged, runJudged, Progress, progress, advanced, runFor, Ran, finished, ranFrom, run}
+use Rattle.model.specs.Run.{meetsClaims, stateJudged, runJudged, Progress, progress, advanced, runFor, Ran, finished, ranFrom, run, runWithin, runJudgedWithin}
 use Rattle.model.proofs.Lists.{all-at}
 use Rattle.model.proofs.Reading.{PointLimited, well-formed}
 use Rattle.model.proofs.OneStep.{Good, StepGood}
@@ -149,19 +149,19 @@ lent-bytes ts rs t r Results = r
 
 module _ (l : List ℕ) (s : State) (t : Tables) (b : ℕ) where
   run-by : (j : Judgement) → runJudged l s (sizesOf t) ≡ j → run l s t b ≡ ranFrom j (pointsOf (listingOf l)) s t b
-  unfolding run
+  unfolding runWithin
   run-by j e = ap (λ (x : Judgement). ranFrom x (pointsOf (listingOf l)) s t b) e
 
   -- turned back by 1 to 14 or 19
   pub listing-refused : (r : Refusal) → listingJudged (listingOf l) ≡ refused r → RunByValue (run l s t b) (outcome (refusedRun r) s 0) (t .results)
-  unfolding runJudged
+  unfolding runJudgedWithin
   listing-refused r e =
       let q = run-by (refused r) (rw e) in
       record { outcome = sym (ap (λ (x : Ran). x .outcome) q); results = sym (ap (λ (x : Ran). x .tables .results) q) }
 
   module _ (accepted : listingJudged (listingOf l) ≡ Accepted) where
     judged-as : runJudged l s (sizesOf t) ≡ stateJudged (pointsOf (listingOf l)) s (sizesOf t)
-    unfolding runJudged
+    unfolding runJudgedWithin
     judged-as = rw accepted
 
     -- turned back by 15 to 17

@@ -9,9 +9,9 @@ use Rattle.model.specs.declared.claims.Line.the-variants.{Refused as refusedLin
 use Rattle.model.specs.declared.answers.Refusal.the-variants.{ListingLength, ClaimOrder}
 use Rattle.model.specs.declared.answers.Judgement.{Judgement}
 use Rattle.model.specs.declared.answers.Judgement.the-variants.{Accepted, Refused as refused}
-use Rattle.model.specs.Limits.{lineBytes}
+use Rattle.model.specs.Limits.{lineBytes, today}
 use Rattle.model.specs.Lines.{readLine}
-use Rattle.model.specs.Listing.{Point, lineAt, inOrder, Reading, going, refusedReading, afterLine, readTo, wholeJudged, Listing, readAs, refusedListing, listingOr, listingFrom, goodLength, listingOf}
+use Rattle.model.specs.Listing.{Point, lineAt, inOrder, Reading, going, refusedReading, afterLine, readTo, wholeJudged, Listing, readAs, refusedListing, listingOr, listingFrom, goodLength, listingOf, listingWithin}
 use Rattle.model.proofs.Tests.{cond-cases}
 use Rattle.reader.proofs.PlacedPoints.{points-count}
 use Rattle.checker.specs.Judged.{Held}
@@ -28,19 +28,19 @@ few-more n (going ps cs) (refusedLine r) h = tt
 few-more n (going ps cs) (claimLine c) h = cond-cases (ReadFew (suc n)) (inOrder n cs c) (going ps (cs ++ (c ∷ []))) (refusedReading (ClaimOrder (n + 1))) (λ e. omega arith) (λ e. tt)
 few-more n (going ps cs) (instructionLine i) h = rw length-append (omega arith)
 
-read-few : (s : List ℕ) (n : ℕ) → ReadFew n (readTo s n)
+read-few : (s : List ℕ) (n : ℕ) → ReadFew n (readTo today s n)
 unfolding readTo
 read-few s zero = omega arith
-read-few s (suc n) = few-more n (readTo s n) (readLine (n + 1) (lineAt s n)) (read-few s n)
+read-few s (suc n) = few-more n (readTo today s n) (readLine today (n + 1) (lineAt s n)) (read-few s n)
 
 abbrev Few : ℕ → Listing → Type 0
 Few n (readAs ps) = length ps ≤ n
 Few n (refusedListing r) = Unit {0}
 
 few-points : (s : List ℕ) → Few (length s / lineBytes) (listingOf s)
-unfolding listingOf
+unfolding listingWithin
 few-points s =
-    cond-cases (Few n) (goodLength (length s)) (listingFrom n (readTo s n)) (refusedListing ListingLength) (λ e. from (readTo s n) (read-few s n)) (λ e. tt)
+    cond-cases (Few n) (goodLength (length s)) (listingFrom n (readTo today s n)) (refusedListing ListingLength) (λ e. from (readTo today s n) (read-few s n)) (λ e. tt)
   where
     n : ℕ
     n = length s / lineBytes

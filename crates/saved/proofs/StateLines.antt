@@ -9,7 +9,7 @@ use Rattle.model.specs.declared.text.Field.{Field}
 use Rattle.model.specs.declared.text.Word.{Word}
 use Rattle.model.specs.declared.text.Word.the-variants.{Setc as SETC, Jump as JUMP}
 use Rattle.model.specs.declared.text.FoundWord.the-variants.{Known}
-use Rattle.model.specs.Limits.{MAX}
+use Rattle.model.specs.Limits.{MAX, today}
 use Rattle.model.specs.Answers.{isRefused}
 use Rattle.model.specs.Words.{textOf as wordText, begins, fieldsOf, allowed, within}
 use Rattle.model.specs.Lines.{wellSpelled, fieldsIn, fieldAt, F1, F4, F5, F6, kindAt, judged, inLimits}
@@ -24,10 +24,10 @@ use Rattle.saved.specs.declared.states.Setting.the-variants.{Value, NoVa
 use Rattle.saved.specs.States.{isLineOf, targetOn, settingOn}
 
 -- the greatest number of a SETC
-set-limit : (fs : List Field) → inLimits SETC fs ≡ true → F6 fs ≤ MAX
+set-limit : (fs : List Field) → inLimits today SETC fs ≡ true → F6 fs ≤ MAX
 unfolding inLimits fieldsOf allowed within
 set-limit fs e =
-    leb-true (F6 fs) MAX (every-below (λ (j : ℕ). allowed (kindAt SETC j) (F1 fs) (F5 fs) (fieldAt fs j)) 6 e 5 (omega arith))
+    leb-true (F6 fs) MAX (every-below (λ (j : ℕ). allowed today (kindAt SETC j) (F1 fs) (F5 fs) (fieldAt fs j)) 6 e 5 (omega arith))
 
 module _ (l : List ℕ) where
   module _ (w : Word) where
@@ -39,7 +39,7 @@ module _ (l : List ℕ) where
     unfolding isLineOf
     not-begun e f = rw (e, f) refl
 
-    pub begun : wellSpelled l ≡ true → begins l (wordText w) ≡ true → not (isRefused (judged 0 (Known w) (fieldsIn l))) ≡ isLineOf w l
+    pub begun : wellSpelled l ≡ true → begins l (wordText w) ≡ true → not (isRefused (judged today 0 (Known w) (fieldsIn l))) ≡ isLineOf w l
     unfolding isLineOf
     begun e f = rw (e, f) refl
 

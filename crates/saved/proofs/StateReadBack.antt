@@ -15,7 +15,7 @@ use Rattle.model.specs.declared.text.Word.the-variants.{Setc as SETC, Jump as J
 use Rattle.model.specs.declared.text.FoundWord.the-variants.{Known}
 use Rattle.model.specs.declared.answers.Judgement.the-variants.{Accepted}
 use Rattle.model.specs.declared.machine.State.{State}
-use Rattle.model.specs.Limits.{lineBytes, registers, MAX, greatestPoints}
+use Rattle.model.specs.Limits.{lineBytes, registers, MAX, greatestPoints, today}
 use Rattle.model.specs.Lists.{everyBelow}
 use Rattle.model.specs.Text.{space}
 use Rattle.model.specs.Answers.{isRefused}
@@ -33,7 +33,7 @@ use Rattle.saved.proofs.StateLines.{begun, target, setting}
 use Rattle.saved.proofs.StateText.{saved-whole}
 
 -- ---- a line that is set
-module _ (w : Word) (fs : List Field) (six : length fs ≡ 6) (j : judged 0 (Known w) fs ≡ Accepted) (l : List ℕ) (e : length l ≡ lineBytes) where
+module _ (w : Word) (fs : List Field) (six : length fs ≡ 6) (j : judged today 0 (Known w) fs ≡ Accepted) (l : List ℕ) (e : length l ≡ lineBytes) where
   set-fields : fieldsIn (lineSet l (wordText w) fs) ≡ fs
   set-fields = line-fields l (wordText w) fs e six (fields-fit 0 w fs j)
 
@@ -41,14 +41,14 @@ module _ (w : Word) (fs : List Field) (six : length fs ≡ 6) (j : judged 0 (Kno
   set-is-line =
       let spelled = line-spelled l (wordText w) fs w e (begins-itself (wordText w)) (fields-fit 0 w fs j) in
       let named = begins-with (lineSet l (wordText w) fs) (wordText w) (line-word l (wordText w) fs e) in
-      let judgement : judged 0 (Known w) (fieldsIn (lineSet l (wordText w) fs)) ≡ Accepted = ap (judged 0 (Known w)) set-fields ∙ j in
+      let judgement : judged today 0 (Known w) (fieldsIn (lineSet l (wordText w) fs)) ≡ Accepted = ap (judged today 0 (Known w)) set-fields ∙ j in
       sym (begun (lineSet l (wordText w) fs) w spelled named) ∙ ap (λ x. not (isRefused x)) judgement
 
-point-accepted : (p : ℕ) → p < greatestPoints → judged 0 (Known JUMP) (pointFields p) ≡ Accepted
+point-accepted : (p : ℕ) → p < greatestPoints → judged today 0 (Known JUMP) (pointFields p) ≡ Accepted
 unfolding judged inShape inLimits everyBelow fieldsOf shaped allowed within
 point-accepted p h = rw (lt-ltb p greatestPoints h)
 
-register-accepted : (v c : ℕ) → v < registers → c ≤ MAX → judged 0 (Known SETC) (registerFields v c) ≡ Accepted
+register-accepted : (v c : ℕ) → v < registers → c ≤ MAX → judged today 0 (Known SETC) (registerFields v c) ≡ Accepted
 unfolding judged inShape inLimits everyBelow fieldsOf shaped allowed within
 register-accepted v c h b = rw (lt-ltb v registers h, le-leb c MAX b)
 

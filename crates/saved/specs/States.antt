@@ -12,7 +12,7 @@ use Rattle.model.specs.declared.text.Word.{Word}
 use Rattle.model.specs.declared.text.Word.the-variants.{Setc as SETC, Jump as JUMP}
 use Rattle.model.specs.declared.text.FoundWord.the-variants.{Known}
 use Rattle.model.specs.declared.machine.State.{State}
-use Rattle.model.specs.Limits.{registers, MAX, greatestPoints}
+use Rattle.model.specs.Limits.{registers, MAX, greatestPoints, today}
 use Rattle.model.specs.Text.{space}
 use Rattle.model.specs.Answers.{isRefused}
 use Rattle.model.specs.Words.{textOf as wordText, begins}
@@ -33,7 +33,7 @@ stateBytes = 680
 -- a line of this word: well spelled, and accepted with its fields
 unfoldable pub isLineOf : Word → List ℕ → Bool
 unfolding wellSpelled begins judged fieldsIn
-isLineOf w l = wellSpelled l && begins l (wordText w) && not (isRefused (judged 0 (Known w) (fieldsIn l)))
+isLineOf w l = wellSpelled l && begins l (wordText w) && not (isRefused (judged today 0 (Known w) (fieldsIn l)))
 
 -- the point that a line names: that of a JUMP
 unfoldable pub targetOn : List ℕ → Target

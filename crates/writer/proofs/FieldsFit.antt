@@ -5,7 +5,7 @@ use mathlib.Core.Path.{_≡_, refl}
 use mathlib.Core.Bool.{Bool, true, false, not, _&&_, _||_, false≢true}
 use lib.Dec.{leb, ltb, eqb}
 use borrow.Author.Tests.{leb-true, ltb-true, eqb-true, eqb-false}
-use Rattle.model.specs.Limits.{registers, tables, variables, MAX, greatestSize, greatestScale, greatestOffset, greatestBound, greatestPoints}
+use Rattle.model.specs.Limits.{registers, tables, variables, MAX, greatestSize, greatestScale, greatestOffset, greatestBound, greatestPoints, today}
 use Rattle.model.specs.Lists.{everyBelow}
 use Rattle.model.specs.declared.text.Field.{Field}
 use Rattle.model.specs.declared.text.Field.the-variants.{Blank, Number, Negative, Misshapen}
@@ -35,7 +35,7 @@ greatest Operand = MAX
 greatest Claimed = MAX
 greatest Bound = greatestBound
 
-below-greatest : (c : Content) (f1 f5 v : ℕ) → within c f1 f5 v ≡ true → v ≤ greatest c
+below-greatest : (c : Content) (f1 f5 v : ℕ) → within today c f1 f5 v ≡ true → v ≤ greatest c
 unfolding within
 below-greatest Register f1 f5 v e = omega (arith, ltb-true v registers e)
 below-greatest Variable f1 f5 v e = omega (arith, ltb-true v variables e)
@@ -86,7 +86,7 @@ columns-hold Turn = refl
 number-fits : (n v g : ℕ) → v ≤ g → (ltb 0 n && ltb g (10 ^ n)) ≡ true → (0 < n) × (v < 10 ^ n)
 number-fits n v g h e = let a = ltb-true 0 n (and-left (ltb 0 n) _ e) in let b = ltb-true g (10 ^ n) (and-right (ltb 0 n) _ e) in (a, omega arith)
 
-kind-fits : (n : ℕ) (k : Kind) (f1 f5 : ℕ) (f : Field) → holds n k ≡ true → shaped k f ≡ true → allowed k f1 f5 f ≡ true → Fits n f
+kind-fits : (n : ℕ) (k : Kind) (f1 f5 : ℕ) (f : Field) → holds n k ≡ true → shaped k f ≡ true → allowed today k f1 f5 f ≡ true → Fits n f
 unfolding shaped allowed Fits
 kind-fits n Empty f1 f5 Blank r s a = tt
 kind-fits n Empty f1 f5 (Number v) r s a = absurd (false≢true s)
@@ -118,7 +118,7 @@ kind-fits n (Signed c) f1 f5 (Negative v) r s a =
 kind-fits n (Signed c) f1 f5 Misshapen r s a = absurd (false≢true s)
 
 -- the law: field j of a word fits its columns where it is in shape and within its limits
-pub accepted-fits : (w : Word) (j : ℕ) → j < 6 → (f1 f5 : ℕ) (f : Field) → shaped (kindAt w j) f ≡ true → allowed (kindAt w j) f1 f5 f ≡ true → Fits (widthOf j) f
+pub accepted-fits : (w : Word) (j : ℕ) → j < 6 → (f1 f5 : ℕ) (f : Field) → shaped (kindAt w j) f ≡ true → allowed today (kindAt w j) f1 f5 f ≡ true → Fits (widthOf j) f
 accepted-fits w j h f1 f5 f s a = kind-fits (widthOf j) (kindAt w j) f1 f5 f (every-below (λ (i : ℕ). holds (widthOf i) (kindAt w i)) 6 (columns-hold w) j h) s a
 
 -- a field that fits is no misshapen one

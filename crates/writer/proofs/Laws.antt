@@ -19,7 +19,7 @@ use Rattle.model.specs.declared.answers.Refusal.the-variants.{LineBytes}
 use Rattle.model.specs.declared.claims.Line.the-variants.{Refused as refusedLine}
 use Rattle.model.specs.declared.answers.Judgement.{Judgement}
 use Rattle.model.specs.declared.answers.Judgement.the-variants.{Accepted, Refused as refused}
-use Rattle.model.specs.Limits.{lineBytes}
+use Rattle.model.specs.Limits.{lineBytes, today}
 use Rattle.model.specs.Text.{lineEnd}
 use Rattle.model.specs.Answers.{isRefused, _andThen_}
 use Rattle.model.specs.Words.{words, begins, wordAmong, shaped, allowed}
@@ -96,16 +96,16 @@ module _ (s : List ℕ) (k : ℕ) (t : List ℕ) (fs : List Field) (h : k * line
 
 -- ---- the judgement
 -- accepted fields fit
-pub fields-fit : (place : ℕ) (w : Word) (fs : List Field) → judged place (Known w) fs ≡ Accepted → (j : ℕ) → j < 6 → Fits (widthOf j) (fieldAt fs j)
+pub fields-fit : (place : ℕ) (w : Word) (fs : List Field) → judged today place (Known w) fs ≡ Accepted → (j : ℕ) → j < 6 → Fits (widthOf j) (fieldAt fs j)
 unfolding inShape inLimits
 fields-fit place w fs e j h =
     let (shape, limits, differ) = accepted place w fs e in
     accepted-fits w j h (F1 fs) (F5 fs) (fieldAt fs j)
     (every-below (λ (i : ℕ). shaped (kindAt w i) (fieldAt fs i)) 6 shape j h)
-    (every-below (λ (i : ℕ). allowed (kindAt w i) (F1 fs) (F5 fs) (fieldAt fs i)) 6 limits j h)
+    (every-below (λ (i : ℕ). allowed today (kindAt w i) (F1 fs) (F5 fs) (fieldAt fs i)) 6 limits j h)
 
 -- the place does not matter
-judged-anywhere : (place place′ : ℕ) (w : Word) (fs : List Field) → judged place (Known w) fs ≡ Accepted → judged place′ (Known w) fs ≡ Accepted
+judged-anywhere : (place place′ : ℕ) (w : Word) (fs : List Field) → judged today place (Known w) fs ≡ Accepted → judged today place′ (Known w) fs ≡ Accepted
 unfolding judged
 judged-anywhere place place′ w fs e = let (shape, limits, differ) = accepted place w fs e in rw (shape, limits, differ)
 
@@ -134,27 +134,27 @@ record Read (l : List ℕ) : Type 0 where
   word : Word
   spelled : wellSpelled l ≡ true
   named : wordAmong words l ≡ Known word
-  fields : (place : ℕ) → judged place (Known word) (fieldsIn l) ≡ Accepted
+  fields : (place : ℕ) → judged today place (Known word) (fieldsIn l) ≡ Accepted
 
-taken-line : (place : ℕ) (l : List ℕ) → Read l → isTaken (readLine place l) ≡ true
+taken-line : (place : ℕ) (l : List ℕ) → Read l → isTaken (readLine today place l) ≡ true
 unfolding readLine
 taken-line place l r = rw (r .spelled, r .named, r .fields place) (word-taken (r .word) (fieldsIn l))
 
 module _ (place : ℕ) (l : List ℕ) (s : wellSpelled l ≡ true) where
-  by-judgement : (w : Word) → wordAmong words l ≡ Known w → (j : Judgement) → judged place (Known w) (fieldsIn l) ≡ j → isTaken (lineOr j (lineFrom w (fieldsIn l))) ≡ true → Read l
+  by-judgement : (w : Word) → wordAmong words l ≡ Known w → (j : Judgement) → judged today place (Known w) (fieldsIn l) ≡ j → isTaken (lineOr j (lineFrom w (fieldsIn l))) ≡ true → Read l
   by-judgement w q Accepted a e = record { word = w; spelled = s; named = q; fields = λ p. judged-anywhere place p w (fieldsIn l) a }
   by-judgement w q (refused r) a e = absurd (false≢true e)
 
-  by-word : (f : FoundWord) → wordAmong words l ≡ f → isTaken (lineFound place f (fieldsIn l)) ≡ true → Read l
+  by-word : (f : FoundWord) → wordAmong words l ≡ f → isTaken (lineFound today place f (fieldsIn l)) ≡ true → Read l
   unfolding judged
   by-word Unknown q e = absurd (false≢true e)
-  by-word (Known w) q e = by-judgement w q (judged place (Known w) (fieldsIn l)) refl e
+  by-word (Known w) q e = by-judgement w q (judged today place (Known w) (fieldsIn l)) refl e
 
-line-taken : (place : ℕ) (l : List ℕ) → isTaken (readLine place l) ≡ true → Read l
+line-taken : (place : ℕ) (l : List ℕ) → isTaken (readLine today place l) ≡ true → Read l
 unfolding readLine
 line-taken place l e = go (wellSpelled l) refl e
   where
-    go : (b : Bool) → wellSpelled l ≡ b → isTaken (cond b (lineFound place (wordAmong words l) (fieldsIn l)) (refusedLine (LineBytes place))) ≡ true → Read l
+    go : (b : Bool) → wellSpelled l ≡ b → isTaken (cond b (lineFound today place (wordAmong words l) (fieldsIn l)) (refusedLine (LineBytes place))) ≡ true → Read l
     go true s e = by-word place l s (wordAmong words l) refl e
     go false s e = absurd (false≢true e)
 
@@ -163,7 +163,7 @@ line-taken place l e = go (wellSpelled l) refl e
 record Set (t : List ℕ) (fs : List Field) (n : ℕ) (s : List ℕ) : Type 0 where
   word : Word
   named : wordOf t ≡ Known word
-  fields : judged n (Known word) fs ≡ Accepted
+  fields : judged today n (Known word) fs ≡ Accepted
   first : 1 ≤ n
   room : n * lineBytes ≤ length s
   after : listingSet t fs n s ≡ withLine s (n - 1) t fs
@@ -172,10 +172,10 @@ call-set : (t : List ℕ) (fs : List Field) (n : ℕ) (s : List ℕ) → lineJud
 unfolding lineJudged listingSet listingIf judged
 call-set t fs n s e = go (wordOf t) refl e
   where
-    go : (f : FoundWord) → wordOf t ≡ f → (judged n f fs andThen roomFor n (length s)) ≡ Accepted → Set t fs n s
+    go : (f : FoundWord) → wordOf t ≡ f → (judged today n f fs andThen roomFor n (length s)) ≡ Accepted → Set t fs n s
     go Unknown q a = let z : _≡_ {A = ℕ} 0 1 = cc in absurd (omega arith)
     go (Known w) q a =
-        let (fields, room) = both-accepted (judged n (Known w) fs) (roomFor n (length s)) a in
+        let (fields, room) = both-accepted (judged today n (Known w) fs) (roomFor n (length s)) a in
         let (first, fits) = room-bounds n (length s) (ap isRefused room) in
         record { word = w; named = q; fields = fields; first = first; room = fits; after = rw e }
 
@@ -189,7 +189,7 @@ four-bytes t w e = go (eqb (length t) 4) refl e
     go false q e = let z : _≡_ {A = ℕ} 0 1 = cc in absurd (omega arith)
 
 -- the line that is set, in any forty bytes
-line-read : (l t : List ℕ) (fs : List Field) (w : Word) → length l ≡ lineBytes → length fs ≡ 6 → wordOf t ≡ Known w → (n : ℕ) → judged n (Known w) fs ≡ Accepted
+line-read : (l t : List ℕ) (fs : List Field) (w : Word) → length l ≡ lineBytes → length fs ≡ 6 → wordOf t ≡ Known w → (n : ℕ) → judged today n (Known w) fs ≡ Accepted
     → (fieldsIn (lineSet l t fs) ≡ fs) × (wordAmong words (lineSet l t fs) ≡ wordOf t) × Read (lineSet l t fs)
 line-read l t fs w e six q n j =
     let fit = fields-fit n w fs j in

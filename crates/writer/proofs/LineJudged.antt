@@ -7,7 +7,7 @@ use mathlib.Core.List.{List, [], _∷_}
 use lib.ListN.{length}
 use lib.Dec.{leb, eqb}
 use borrow.Author.Tests.{leb-true, le-leb, lt-leb, eq-eqb, ne-eqb}
-use Rattle.model.specs.Limits.{lineBytes, greatestLines}
+use Rattle.model.specs.Limits.{lineBytes, greatestLines, today}
 use Rattle.model.specs.declared.text.Field.{Field}
 use Rattle.model.specs.declared.text.Word.{Word}
 use Rattle.model.specs.declared.text.FoundWord.the-variants.{Unknown, Known}
@@ -105,7 +105,7 @@ module _ (t : List ℕ) (fs : List Field) (n : ℕ) (s : List ℕ) where
   unfolding lineJudged listingSet listingIf judged
   unknown e = (rw e, rw e)
 
-  pub known : (w : Word) → wordOf t ≡ Known w → (j : Judgement) → j ≡ (judged n (Known w) fs andThen roomFor n (length s)) → (s₁ : List ℕ) → s₁ ≡ listingIf (judged n (Known w) fs andThen roomFor n (length s)) (withLine s (n - 1) (textOf w) fs) s
+  pub known : (w : Word) → wordOf t ≡ Known w → (j : Judgement) → j ≡ (judged today n (Known w) fs andThen roomFor n (length s)) → (s₁ : List ℕ) → s₁ ≡ listingIf (judged today n (Known w) fs andThen roomFor n (length s)) (withLine s (n - 1) (textOf w) fs) s
       → (j ≡ lineJudged t fs n s) × (s₁ ≡ listingSet t fs n s)
   unfolding lineJudged listingSet
   known w e j q s₁ r = (rw e q, rw (e, ← same-line s (n - 1) t (textOf w) fs (found t w e)) r)

@@ -16,7 +16,7 @@ ghost use mathlib.Core.Path.{_≡_};
 ghost use Prim.Native.Nat.{_+_, _*_, _-_, _≤_};
 ghost use lib.ListN.{length};
 ghost use Rattle.model.specs.declared.text.FoundWord.the-variants.{Known};
-ghost use Rattle.model.specs.Limits.{lineBytes};
+ghost use Rattle.model.specs.Limits.{lineBytes, today};
 ghost use Rattle.model.specs.Answers.{_andThen_};
 ghost use Rattle.model.specs.Words.{textOf};
 ghost use Rattle.model.specs.Lines.{judged};
@@ -67,8 +67,8 @@ fn first(j: Judgement, k: Judgement) -> Judgement
 
 // Sets line n to a word and its fields, where nothing turns them back.
 fn set_known(w: Word, fs: [Field; 6], n: usize, s: &mut [u8]) -> Judgement
-    ensures { λ r. ⌜ r ≡ (judged n (Known w) fs andThen roomFor n (length (now (s .entry)))) ⌝ }
-    ensures { λ _. ⌜ now (s .exit) ≡ listingIf (judged n (Known w) fs andThen roomFor n (length (now (s .entry)))) (withLine (now (s .entry)) (n - 1) (textOf w) fs) (now (s .entry)) ⌝ }
+    ensures { λ r. ⌜ r ≡ (judged today n (Known w) fs andThen roomFor n (length (now (s .entry)))) ⌝ }
+    ensures { λ _. ⌜ now (s .exit) ≡ listingIf (judged today n (Known w) fs andThen roomFor n (length (now (s .entry)))) (withLine (now (s .entry)) (n - 1) (textOf w) fs) (now (s .entry)) ⌝ }
 {
     let judgement = judge(n, FoundWord::Known(w), kept_fields(fs));
     let room = room_for(n, s.len());

@@ -3,6 +3,7 @@
 
 use crate::checker::passed;
 use crate::known::Known;
+use crate::limits::Limits;
 use crate::line::{Arithmetic, Instruction, Operand, Whole};
 use crate::listing::{Listing, Point, Refusal};
 use crate::refusals::WAY_BACK_NOT_COVERED;
@@ -10,7 +11,11 @@ use crate::refusals::WAY_BACK_NOT_COVERED;
 /// The bound: the points where nothing goes back, else the points times one more than the TURN register can hold at the
 /// start.
 pub fn step_bound(listing: &[u8]) -> Result<u64, Refusal> {
-    let listing = passed(listing)?;
+    step_bound_within(Limits::TODAY, listing)
+}
+
+pub fn step_bound_within(limits: Limits, listing: &[u8]) -> Result<u64, Refusal> {
+    let listing = passed(limits, listing)?;
     let back: Vec<usize> = (0..listing.points.len()).filter(|&at| goes_back(&listing, at)).collect();
     if let Some(&first) = back.iter().find(|&&at| !is_covered(&listing, at)) {
         return Err(Refusal::new(WAY_BACK_NOT_COVERED, listing.points[first].line));

@@ -1,10 +1,11 @@
 //! What every point owes that is not empty. Refusals 12 to 14, and the checker's whole answer.
 
-use crate::edges::edges;
+use crate::edges::edges_within;
 use crate::follows::{claim_follows, goal_follows, LINKS};
 use crate::known::Known;
+use crate::limits::Limits;
 use crate::line::{Instruction, Operand, Stripe, Whole, RESULTS_SIZE, TRAYS_SIZE};
-use crate::listing::{read, Listing, Refusal};
+use crate::listing::{read_within, Listing, Refusal};
 use crate::refusals::{ACCESS_MAY_LEAVE, CLAIM_DOES_NOT_FOLLOW, DIVISOR_MAY_BE_ZERO};
 
 /// The checker's answer: number 0 and the points for a listing that passes, else the refusal and no points.
@@ -17,23 +18,27 @@ pub struct Answer {
 }
 
 pub fn check(listing: &[u8]) -> Answer {
-    match passed(listing) {
+    check_within(Limits::TODAY, listing)
+}
+
+pub fn check_within(limits: Limits, listing: &[u8]) -> Answer {
+    match passed(limits, listing) {
         Ok(listing) => Answer { number: 0, place: 0, second: 0, points: listing.points.len() as u64 },
         Err(Refusal { number, place, second }) => Answer { number, place, second, points: 0 },
     }
 }
 
 /// The points of a listing that is turned back by none of 1 to 14 and 19.
-pub(crate) fn passed(listing: &[u8]) -> Result<Listing, Refusal> {
-    let listing = read(listing)?;
+pub(crate) fn passed(limits: Limits, listing: &[u8]) -> Result<Listing, Refusal> {
+    let listing = read_within(limits, listing)?;
     for point in 0..listing.points.len() {
-        owed(&listing, point)?;
+        owed(limits, &listing, point)?;
     }
     Ok(listing)
 }
 
 /// An empty point owes nothing; the points that lead to it owe its claims, which only an impossible edge can show.
-fn owed(listing: &Listing, index: usize) -> Result<(), Refusal> {
+fn owed(limits: Limits, listing: &Listing, index: usize) -> Result<(), Refusal> {
     let point = &listing.points[index];
     if point.is_empty() {
         return Ok(());
@@ -45,7 +50,7 @@ fn owed(listing: &Listing, index: usize) -> Result<(), Refusal> {
     if !access_is_safe(&point.instruction, &known) {
         return Err(Refusal::new(ACCESS_MAY_LEAVE, point.line));
     }
-    for edge in edges(index, &point.instruction, &known) {
+    for edge in edges_within(limits, index, &point.instruction, &known) {
         let Some(along) = edge.known else { continue };
         for owed in &listing.points[edge.to].claims {
             if !claim_follows(&along, &owed.claim) {

@@ -1,7 +1,8 @@
 //! What a step does to ranges and stripes, along each edge that leaves a point.
 
 use crate::known::{Known, Range};
-use crate::line::{Arithmetic, Comparison, Instruction, Operand, Stripe, Whole, BOUND_LIMIT, MAX};
+use crate::limits::Limits;
+use crate::line::{Arithmetic, Comparison, Instruction, Operand, Stripe, Whole, MAX};
 use crate::quotient::{nearest, rounded_down};
 
 /// Where an edge leads, and what is known along it. Along an impossible edge, nothing need be shown.
@@ -13,6 +14,10 @@ pub struct Edge {
 
 /// The edges of the instruction at `point`: the one to the point after it comes before the one to its target.
 pub fn edges(point: usize, instruction: &Instruction, before: &Known) -> Vec<Edge> {
+    edges_within(Limits::TODAY, point, instruction, before)
+}
+
+pub fn edges_within(limits: Limits, point: usize, instruction: &Instruction, before: &Known) -> Vec<Edge> {
     let edge = |to, after: Option<Known>| Edge { to, known: after.filter(|known| !known.has_empty_range()) };
     match *instruction {
         Instruction::Stop => vec![],
@@ -23,12 +28,12 @@ pub fn edges(point: usize, instruction: &Instruction, before: &Known) -> Vec<Edg
         Instruction::Branch { kind: Comparison::Equal, i, target, o } => {
             vec![edge(point + 1, Some(not_equal(before, i, o))), edge(target, Some(equal(before, i, o)))]
         }
-        _ => vec![edge(point + 1, after_straight(instruction, before))],
+        _ => vec![edge(point + 1, after_straight(limits, instruction, before))],
     }
 }
 
 /// After an instruction whose only successor is the next point; none where no step is possible.
-fn after_straight(instruction: &Instruction, before: &Known) -> Option<Known> {
+fn after_straight(limits: Limits, instruction: &Instruction, before: &Known) -> Option<Known> {
     match *instruction {
         Instruction::Set { d, number } => Some(written(before, d, Range::only(number), &[])),
         Instruction::Load { d, width, .. } => {
@@ -36,9 +41,9 @@ fn after_straight(instruction: &Instruction, before: &Known) -> Option<Known> {
             Some(written(before, d, Range { lo: 0, hi }, &[]))
         }
         Instruction::Copy { d, i } => Some(copied(before, d, i)),
-        Instruction::Compute { kind: Arithmetic::Add, d, i, o } => Some(added(before, d, i, o)),
-        Instruction::Compute { kind: Arithmetic::Subtract, d, i, o } => Some(subtracted(before, d, i, o)),
-        Instruction::Compute { kind: Arithmetic::Multiply, d, i, o } => Some(multiplied(before, d, i, o)),
+        Instruction::Compute { kind: Arithmetic::Add, d, i, o } => Some(added(limits, before, d, i, o)),
+        Instruction::Compute { kind: Arithmetic::Subtract, d, i, o } => Some(subtracted(limits, before, d, i, o)),
+        Instruction::Compute { kind: Arithmetic::Multiply, d, i, o } => Some(multiplied(limits, before, d, i, o)),
         Instruction::Compute { kind: Arithmetic::Divide, d, i, o } => divided(before, d, i, o),
         Instruction::DivMod { q, i, r, o } => divided_with_rest(before, q, i, r, o),
         _ => Some(before.clone()),
@@ -77,14 +82,14 @@ fn copied(before: &Known, d: usize, i: usize) -> Known {
     written(before, d, before.ranges[i], &[difference(d, i, 0), difference(i, d, 0)])
 }
 
-fn added(before: &Known, d: usize, i: usize, o: Operand) -> Known {
+fn added(limits: Limits, before: &Known, d: usize, i: usize, o: Operand) -> Known {
     let (left, right) = (before.ranges[i], range_of(before, o));
     if left.hi + right.hi > MAX {
         return written(before, d, Range::REGISTER, &[]);
     }
     let sum = Range { lo: left.lo + right.lo, hi: left.hi + right.hi };
     match o {
-        Operand::Number(number) => moved(before, d, i, sum, number),
+        Operand::Number(number) => moved(limits, before, d, i, sum, number),
         Operand::Variable(v) if d != i && d != v => {
             written(before, d, sum, &[Stripe { x: d, a: 1, y: i, z: Some(v), b: 0 }])
         }
@@ -92,14 +97,14 @@ fn added(before: &Known, d: usize, i: usize, o: Operand) -> Known {
     }
 }
 
-fn subtracted(before: &Known, d: usize, i: usize, o: Operand) -> Known {
+fn subtracted(limits: Limits, before: &Known, d: usize, i: usize, o: Operand) -> Known {
     let (left, right) = (before.ranges[i], range_of(before, o));
     if left.lo < right.hi {
         return written(before, d, Range::REGISTER, &[]);
     }
     let rest = Range { lo: left.lo - right.hi, hi: left.hi - right.lo };
     match o {
-        Operand::Number(number) => moved(before, d, i, rest, -number),
+        Operand::Number(number) => moved(limits, before, d, i, rest, -number),
         Operand::Variable(v) if d != i && d != v => {
             written(before, d, rest, &[Stripe { x: i, a: 1, y: d, z: Some(v), b: 0 }])
         }
@@ -108,7 +113,7 @@ fn subtracted(before: &Known, d: usize, i: usize, o: Operand) -> Known {
 }
 
 /// d becomes i + by, without wrapping.
-fn moved(before: &Known, d: usize, i: usize, range: Range, by: Whole) -> Known {
+fn moved(limits: Limits, before: &Known, d: usize, i: usize, range: Range, by: Whole) -> Known {
     if d != i {
         return written(before, d, range, &[difference(d, i, by), difference(i, d, -by)]);
     }
@@ -117,7 +122,7 @@ fn moved(before: &Known, d: usize, i: usize, range: Range, by: Whole) -> Known {
     for stripe in &mut after.stripes {
         stripe.b += shift(stripe, d, by);
     }
-    after.stripes.retain(|stripe| stripe.b.abs() <= BOUND_LIMIT);
+    after.stripes.retain(|stripe| limits.has_bound(stripe.b));
     after
 }
 
@@ -136,14 +141,14 @@ fn shift(stripe: &Stripe, d: usize, by: Whole) -> Whole {
     shift
 }
 
-fn multiplied(before: &Known, d: usize, i: usize, o: Operand) -> Known {
+fn multiplied(limits: Limits, before: &Known, d: usize, i: usize, o: Operand) -> Known {
     let (left, right) = (before.ranges[i], range_of(before, o));
     if left.hi * right.hi > MAX {
         return written(before, d, Range::REGISTER, &[]);
     }
     let product = Range { lo: left.lo * right.lo, hi: left.hi * right.hi };
     match o {
-        Operand::Number(number) if (1..=255).contains(&number) && d != i => {
+        Operand::Number(number) if limits.has_scale(number) && d != i => {
             written(before, d, product, &[Stripe { x: d, a: number, y: i, z: None, b: 0 }])
         }
         _ => written(before, d, product, &[]),

@@ -1,5 +1,6 @@
 //! One line of 40 bytes: its columns, its word, its fields and their limits. Refusals 2 to 5 in that order, then 19.
 
+use crate::limits::Limits;
 use crate::refusals::{BAD_BYTE, BAD_SHAPE, ONE_REGISTER_TWICE, OUT_OF_LIMITS, UNKNOWN_WORD};
 
 pub type Whole = i128;
@@ -8,8 +9,6 @@ pub type Whole = i128;
 pub const MAX: Whole = 4_294_967_295;
 /// The greatest size of a table in bytes.
 pub const SIZE_LIMIT: Whole = 65_536;
-/// The greatest amount of a written stripe bound, either sign.
-pub const BOUND_LIMIT: Whole = 4_398_046_511_104;
 pub const REGISTERS: usize = 16;
 /// The variable that is the size of table 0.
 pub const TRAYS_SIZE: usize = 16;
@@ -20,7 +19,6 @@ pub const VARIABLES: usize = 18;
 pub const TARGETS: Whole = 512;
 
 const OFFSET_LIMIT: Whole = 65_535;
-const SCALE_LIMIT: Whole = 255;
 
 #[derive(Clone, Copy, Debug, PartialEq, Eq)]
 pub enum Operand {
@@ -127,8 +125,12 @@ pub type Numbers = [Option<Whole>; 6];
 
 /// The line's meaning, or the number of its first refusal.
 pub fn read_line(line: &[u8]) -> Result<Line, u64> {
+    read_line_within(Limits::TODAY, line)
+}
+
+pub fn read_line_within(limits: Limits, line: &[u8]) -> Result<Line, u64> {
     let (word, numbers) = shaped(line)?;
-    let line = meaning(word, &numbers).ok_or(OUT_OF_LIMITS)?;
+    let line = meaning(limits, word, &numbers).ok_or(OUT_OF_LIMITS)?;
     match line {
         Line::Instruction(Instruction::DivMod { q, r, .. }) if q == r => Err(ONE_REGISTER_TWICE),
         _ => Ok(line),
@@ -209,30 +211,29 @@ fn signed(text: &[u8]) -> Option<Whole> {
 }
 
 /// The meaning of well-shaped fields, or none where a number is outside its limits.
-fn meaning(word: &[u8], f: &Numbers) -> Option<Line> {
+fn meaning(limits: Limits, word: &[u8], f: &Numbers) -> Option<Line> {
     match word {
         b"TURN" => register(f[0]).map(Line::Turn),
-        b"LEAS" | b"MOST" | b"STRP" => claim(word, f).map(Line::Claim),
-        _ => instruction(word, f).map(Line::Instruction),
+        b"LEAS" | b"MOST" | b"STRP" => claim(limits, word, f).map(Line::Claim),
+        _ => instruction(limits, word, f).map(Line::Instruction),
     }
 }
 
-fn claim(word: &[u8], f: &Numbers) -> Option<Claim> {
+fn claim(limits: Limits, word: &[u8], f: &Numbers) -> Option<Claim> {
     if word == b"STRP" {
         let z = match f[3] {
             None => None,
             filled => Some(variable(filled)?),
         };
-        let b = within(f[5], -BOUND_LIMIT, BOUND_LIMIT)?;
-        let a = within(f[1], 1, SCALE_LIMIT)?;
-        return Some(Claim::Stripe(Stripe { x: variable(f[0])?, a, y: variable(f[2])?, z, b }));
+        let b = f[5].filter(|&bound| limits.has_bound(bound))?;
+        return Some(Claim::Stripe(Stripe { x: variable(f[0])?, a: scale(limits, f[1])?, y: variable(f[2])?, z, b }));
     }
     let v = variable(f[0])?;
     let value = within(f[5], 0, if v < REGISTERS { MAX } else { SIZE_LIMIT })?;
     Some(if word == b"LEAS" { Claim::Least { v, value } } else { Claim::Most { v, value } })
 }
 
-fn instruction(word: &[u8], f: &Numbers) -> Option<Instruction> {
+fn instruction(limits: Limits, word: &[u8], f: &Numbers) -> Option<Instruction> {
     let compute =
         |kind| Some(Instruction::Compute { kind, d: register(f[0])?, i: variable(f[1])?, o: operand(f[4], f[5])? });
     let branch =
@@ -246,8 +247,8 @@ fn instruction(word: &[u8], f: &Numbers) -> Option<Instruction> {
         b"MULW" => compute(Arithmetic::Multiply),
         b"DIVF" => compute(Arithmetic::Divide),
         b"DIVM" => div_mod(f),
-        b"LOAD" => load(f),
-        b"STOR" => store(f),
+        b"LOAD" => load(limits, f),
+        b"STOR" => store(limits, f),
         b"JUMP" => Some(Instruction::Jump { target: target(f[3])? }),
         b"BLTU" => branch(Comparison::Less),
         b"BEQU" => branch(Comparison::Equal),
@@ -259,22 +260,22 @@ fn div_mod(f: &Numbers) -> Option<Instruction> {
     Some(Instruction::DivMod { q: register(f[0])?, i: variable(f[1])?, r: register(f[2])?, o: operand(f[4], f[5])? })
 }
 
-fn load(f: &Numbers) -> Option<Instruction> {
+fn load(limits: Limits, f: &Numbers) -> Option<Instruction> {
     Some(Instruction::Load {
         d: register(f[0])?,
         width: width(f[1])?,
         table: within(f[2], 0, 1)?,
-        scale: within(f[3], 1, SCALE_LIMIT)?,
+        scale: scale(limits, f[3])?,
         i: variable(f[4])?,
         offset: within(f[5], 0, OFFSET_LIMIT)?,
     })
 }
 
-fn store(f: &Numbers) -> Option<Instruction> {
+fn store(limits: Limits, f: &Numbers) -> Option<Instruction> {
     Some(Instruction::Store {
         stored: variable(f[0])?,
         width: width(f[1])?,
-        scale: within(f[3], 1, SCALE_LIMIT)?,
+        scale: scale(limits, f[3])?,
         i: variable(f[4])?,
         offset: within(f[5], 0, OFFSET_LIMIT)?,
     })
@@ -294,6 +295,10 @@ fn variable(number: Option<Whole>) -> Option<usize> {
 
 fn target(number: Option<Whole>) -> Option<usize> {
     within(number, 0, TARGETS - 1).map(|number| number as usize)
+}
+
+fn scale(limits: Limits, number: Option<Whole>) -> Option<Whole> {
+    number.filter(|&number| limits.has_scale(number))
 }
 
 fn width(number: Option<Whole>) -> Option<Whole> {

@@ -1,7 +1,8 @@
 //! A whole listing: lines to points. Refusals 1 to 11, and 19 among them.
 
 use crate::known::Known;
-use crate::line::{read_line, Claim, Instruction, Line};
+use crate::limits::Limits;
+use crate::line::{read_line_within, Claim, Instruction, Line};
 use crate::refusals::{
     BAD_LENGTH, BAD_ORDER, EMPTY_START, ENDS_IN_CLAIM, NO_SUCH_POINT, NO_SUCH_TARGET, RUNS_OFF_THE_END, TOO_MANY_POINTS,
 };
@@ -29,14 +30,14 @@ impl Refusal {
 }
 
 /// A claim and its line, counted from 1.
-#[derive(Clone, Copy, Debug)]
+#[derive(Clone, Copy, Debug, PartialEq, Eq)]
 pub struct ClaimLine {
     pub claim: Claim,
     pub line: u64,
 }
 
 /// An instruction, its line counted from 1, and the claims before it.
-#[derive(Clone, Debug)]
+#[derive(Clone, Debug, PartialEq, Eq)]
 pub struct Point {
     pub instruction: Instruction,
     pub line: u64,
@@ -51,7 +52,7 @@ impl Point {
 }
 
 /// The points, and the register of the TURN line if there is one.
-#[derive(Clone, Debug)]
+#[derive(Clone, Debug, PartialEq, Eq)]
 pub struct Listing {
     pub turn: Option<usize>,
     pub points: Vec<Point>,
@@ -59,6 +60,10 @@ pub struct Listing {
 
 /// The points of a listing that is turned back by none of 1 to 11 and 19.
 pub fn read(bytes: &[u8]) -> Result<Listing, Refusal> {
+    read_within(Limits::TODAY, bytes)
+}
+
+pub fn read_within(limits: Limits, bytes: &[u8]) -> Result<Listing, Refusal> {
     if bytes.is_empty() || bytes.len() > LONGEST || !bytes.len().is_multiple_of(LINE_BYTES) {
         return Err(Refusal::new(BAD_LENGTH, 0));
     }
@@ -68,7 +73,7 @@ pub fn read(bytes: &[u8]) -> Result<Listing, Refusal> {
     let mut claims: Vec<ClaimLine> = Vec::new();
     for (index, bytes) in bytes.chunks(LINE_BYTES).enumerate() {
         let line = index as u64 + 1;
-        match read_line(bytes).map_err(|number| Refusal::new(number, line))? {
+        match read_line_within(limits, bytes).map_err(|number| Refusal::new(number, line))? {
             Line::Instruction(instruction) => {
                 points.push(Point { instruction, line, claims: std::mem::take(&mut claims) });
             }
@@ -124,7 +129,11 @@ fn stripes(claims: &[ClaimLine]) -> usize {
 /// Where the claim lines of a point stand: all lines between the instruction before it and its own. A TURN line is one
 /// of point 0's.
 pub fn claim_span(bytes: &[u8], point: u64) -> Result<Range<usize>, Refusal> {
-    let listing = read(bytes)?;
+    claim_span_within(Limits::TODAY, bytes, point)
+}
+
+pub fn claim_span_within(limits: Limits, bytes: &[u8], point: u64) -> Result<Range<usize>, Refusal> {
+    let listing = read_within(limits, bytes)?;
     let Some(at) = usize::try_from(point).ok().filter(|&at| at < listing.points.len()) else {
         return Err(Refusal::new(NO_SUCH_POINT, 0));
     };

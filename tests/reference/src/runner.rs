@@ -1,6 +1,7 @@
 //! The runner: a checked listing, a state that meets its claims, and a budget of steps. Refusals 15 to 17.
 
 use crate::checker::passed;
+use crate::limits::Limits;
 use crate::line::{Instruction, SIZE_LIMIT};
 use crate::listing::{Listing, Refusal};
 use crate::machine::{meets, step, State, Step};
@@ -22,15 +23,19 @@ pub struct Run {
 
 /// Runs at most `budget` steps. After a refusal state and results are as they were, and no step was made.
 pub fn run(listing: &[u8], state: State, trays: &[u8], results: &mut [u8], budget: u32) -> Run {
-    match runnable(listing, &state, trays, results) {
+    run_within(Limits::TODAY, listing, state, trays, results, budget)
+}
+
+pub fn run_within(limits: Limits, listing: &[u8], state: State, trays: &[u8], results: &mut [u8], budget: u32) -> Run {
+    match runnable(limits, listing, &state, trays, results) {
         Ok(listing) => steps(&listing, state, trays, results, u64::from(budget)),
         Err(refusal) => Run { outcome: Outcome::Refused(refusal), state, steps: 0 },
     }
 }
 
 /// Refusals 1 to 17.
-fn runnable(listing: &[u8], state: &State, trays: &[u8], results: &[u8]) -> Result<Listing, Refusal> {
-    let listing = passed(listing)?;
+fn runnable(limits: Limits, listing: &[u8], state: &State, trays: &[u8], results: &[u8]) -> Result<Listing, Refusal> {
+    let listing = passed(limits, listing)?;
     if [trays, results].iter().any(|table| table.len() as i128 > SIZE_LIMIT) {
         return Err(Refusal::new(TABLE_TOO_LONG, 0));
     }

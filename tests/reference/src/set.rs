@@ -2,7 +2,8 @@
 //! then 18.
 //! What a word wants in its fields stands here a second time, so that reading and setting can be tried on each other.
 
-use crate::line::{Whole, BOUND_LIMIT, MAX, SIZE_LIMIT};
+use crate::limits::Limits;
+use crate::line::{Whole, MAX, SIZE_LIMIT};
 use crate::listing::{Refusal, LINE_BYTES, LONGEST};
 use crate::refusals::{BAD_SHAPE, NO_SUCH_LINE, ONE_REGISTER_TWICE, OUT_OF_LIMITS, UNKNOWN_WORD};
 use std::ops::Range;
@@ -42,11 +43,22 @@ enum Wanted {
 
 /// Writes the line, counted from 1, and leaves every other byte. A call that is turned back leaves all of them.
 pub fn set_line(word: &[u8], fields: &[Field; 6], line: u64, listing: &mut [u8]) -> Result<(), Refusal> {
+    set_line_within(Limits::TODAY, word, fields, line, listing)
+}
+
+pub fn set_line_within(
+    limits: Limits,
+    word: &[u8],
+    fields: &[Field; 6],
+    line: u64,
+    listing: &mut [u8],
+) -> Result<(), Refusal> {
     let Some(wanted) = wanted(word) else { return Err(Refusal::new(UNKNOWN_WORD, line)) };
     if !(0..6).all(|at| has_shape(wanted[at], fields[at])) {
         return Err(Refusal::new(BAD_SHAPE, line));
     }
-    if !(0..6).all(|at| text(fields[at]).len() <= columns(at).len() && within_limits(wanted[at], fields[at], fields)) {
+    let fits = |at: usize| text(fields[at]).len() <= columns(at).len();
+    if !(0..6).all(|at| fits(at) && within_limits(limits, wanted[at], fields[at], fields)) {
         return Err(Refusal::new(OUT_OF_LIMITS, line));
     }
     if word == b"DIVM" && fields[0] == fields[2] {
@@ -89,27 +101,27 @@ fn has_shape(wanted: Wanted, field: Field) -> bool {
 }
 
 /// Whether a field of the right shape is within its limits.
-fn within_limits(wanted: Wanted, field: Field, fields: &[Field; 6]) -> bool {
+fn within_limits(limits: Limits, wanted: Wanted, field: Field, fields: &[Field; 6]) -> bool {
     let number = match field {
         Field::Number(number) => number,
         Field::Negative(number) => -number,
         Field::Blank | Field::Misshapen => return true,
     };
-    let limits = match wanted {
+    let allowed = match wanted {
         Wanted::Blank => return false,
         Wanted::Width => return [1, 2, 4].contains(&number),
         Wanted::Register => 0..=15,
         Wanted::Variable | Wanted::VariableOrBlank => 0..=17,
         Wanted::Table | Wanted::Choice => 0..=1,
-        Wanted::Scale => 1..=255,
+        Wanted::Scale => return limits.has_scale(number),
         Wanted::Target => 0..=511,
         Wanted::Offset => 0..=65_535,
         Wanted::Operand if fields[4] == Field::Number(0) => 0..=17,
         Wanted::RangeEnd if matches!(fields[0], Field::Number(16 | 17)) => 0..=SIZE_LIMIT,
         Wanted::Operand | Wanted::RangeEnd | Wanted::Value => 0..=MAX,
-        Wanted::Bound => -BOUND_LIMIT..=BOUND_LIMIT,
+        Wanted::Bound => return limits.has_bound(number),
     };
-    limits.contains(&number)
+    allowed.contains(&number)
 }
 
 /// The bytes of a listing that are its line with this number, if they are there and a listing may have so many lines.

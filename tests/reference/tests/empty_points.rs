@@ -102,9 +102,9 @@ fn stripes_alone_empty_nothing() {
         "STRP 0 1 0 _ _ 1;",
         "STRP 0 1 1 _ _ 1; STRP 1 1 0 _ _ 1;",
         "STRP 17 1 0 _ _ 65537;",
-        "STRP 0 1 1 _ _ 4398046511104;",
+        "STRP 0 1 1 _ _ 70368744177664;",
         "MOST 5 _ _ _ _ 8; STRP 5 1 6 _ _ 9;",
-        "LEAS 5 _ _ _ _ 9; STRP 16 255 5 _ _ 65536;",
+        "LEAS 5 _ _ _ _ 9; STRP 16 4095 5 _ _ 65536;",
     ];
     for claims in contradictory {
         let line = 2 + claims.matches(';').count() as u64;
@@ -125,10 +125,10 @@ const UNSAFE: [(&str, u64); 10] = [
     ("DIVM 0 1 3 _ 1 0", 12),
     ("DIVM 0 1 3 _ 0 2", 12),
     ("LOAD 0 1 0 1 1 0", 13),
-    ("LOAD 0 4 1 255 1 65535", 13),
+    ("LOAD 0 4 1 4095 1 65535", 13),
     ("LOAD 0 2 0 1 17 0", 13),
     ("STOR 0 1 _ 1 1 0", 13),
-    ("STOR 17 4 _ 255 16 65535", 13),
+    ("STOR 17 4 _ 4095 16 65535", 13),
 ];
 
 #[test]
@@ -322,7 +322,7 @@ fn around_a_dead_stretch() -> Vec<u8> {
     let q = "STRP 17 4 0 _ _ 4;";
     listing(&format!(
         "{s} SETC 0 _ _ _ _ 0; {s} BLTU _ 0 _ 5 0 1; STOP;
-         {EMPTY} STOR 0 4 _ 255 1 65535; {EMPTY} DIVF 5 1 _ _ 1 0;
+         {EMPTY} STOR 0 4 _ 4095 1 65535; {EMPTY} DIVF 5 1 _ _ 1 0;
          {s} {q} STOR 2 4 _ 4 0 0; {s} ADDW 0 0 _ _ 1 1; {s} JUMP _ _ _ 1"
     ))
 }

@@ -6,7 +6,7 @@ use answers::{claim_fails, fails, passes};
 use lines::{listing, FIELDS};
 use reference::{check, run, Outcome, State};
 
-const BOUND_LIMIT: i64 = 4_398_046_511_104;
+const BOUND_LIMIT: i64 = 70_368_744_177_664;
 
 /// The refusal of a listing whose first line has this text in a field, blanks and all.
 fn number_with(notation: &str, field: usize, text: &str) -> u64 {

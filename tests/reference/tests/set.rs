@@ -5,7 +5,8 @@ use reference::{set_line, Field, Refusal};
 use Field::{Blank, Misshapen, Negative, Number};
 
 const OTHER: u8 = b'?';
-const BOUND_LIMIT: i128 = 4_398_046_511_104;
+const BOUND_LIMIT: i128 = 70_368_744_177_664;
+const SCALE_LIMIT: i128 = 4_095;
 const MAX: i128 = 4_294_967_295;
 
 /// The number and the place of a refusal, after which no byte is changed; 0 and 0 where the line was set.
@@ -38,10 +39,10 @@ const STRP: [Field; 6] = [Number(1), Number(2), Number(3), Number(4), Blank, Neg
 
 #[test]
 fn writes_the_line_and_no_other_byte() {
-    let fields = [Number(17), Number(255), Number(0), Blank, Blank, Negative(BOUND_LIMIT)];
+    let fields = [Number(17), Number(SCALE_LIMIT), Number(0), Blank, Blank, Negative(BOUND_LIMIT)];
     let mut bytes = vec![OTHER; 130];
     assert_eq!(set_line(b"STRP", &fields, 2, &mut bytes), Ok(()));
-    let expected = [vec![OTHER; 40], listing("STRP 17 255 0 _ _ -4398046511104"), vec![OTHER; 50]].concat();
+    let expected = [vec![OTHER; 40], listing("STRP 17 4095 0 _ _ -70368744177664"), vec![OTHER; 50]].concat();
     assert_eq!(bytes, expected);
 }
 
@@ -57,8 +58,9 @@ fn sets_a_line_of_every_word() {
         "DIVF 1 2 _ _ 1 0",
         "DIVM 15 17 0 _ 0 17",
         "DIVM 0 0 15 _ 1 4294967295",
-        "LOAD 1 4 1 255 17 65535",
+        "LOAD 1 4 1 4095 17 65535",
         "STOR 17 1 _ 1 0 0",
+        "STOR 17 1 _ 256 0 0",
         "JUMP _ _ _ 511",
         "BLTU _ 17 _ 0 0 3",
         "BEQU _ 1 _ 1 1 3",
@@ -156,12 +158,12 @@ fn a_number_past_its_limit_is_5() {
         ("DIVM", DIVM, 6, MAX),
         ("LOAD", LOAD, 2, 4),
         ("LOAD", LOAD, 3, 1),
-        ("LOAD", LOAD, 4, 255),
+        ("LOAD", LOAD, 4, SCALE_LIMIT),
         ("LOAD", LOAD, 5, 17),
         ("LOAD", LOAD, 6, 65_535),
         ("LEAS", SETC, 1, 17),
         ("MOST", SETC, 6, MAX),
-        ("STRP", STRP, 2, 255),
+        ("STRP", STRP, 2, SCALE_LIMIT),
         ("STRP", STRP, 4, 17),
         ("STRP", STRP, 6, BOUND_LIMIT),
     ] {

@@ -4,6 +4,7 @@ use mathlib.Core.Path.{_≡_, sym, _∙_}
 use native.Mathlib.Omega.{arith}
 use borrow.Author.Needs.{needs}
 use Rattle.model.specs.declared.answers.Judgement.the-variants.{Accepted}
+use Rattle.model.specs.Limits.{today}
 use Rattle.model.specs.Check.{pointsJudged}
 use Rattle.facts.specs.Sizes.{greatestPart, edgeStripes}
 use Rattle.facts.specs.StripeRows.{SizedRows}
@@ -17,7 +18,7 @@ use Rattle.obligations.proofs.points.points_judged.Tie as tie
 
 abbrev Inv-loop : tie.InvT-loop
 Inv-loop rows at n low₀ high₀ stripes₀ edge-stripes₀ p₀ low high stripes edge-stripes p =
-    (p ≤ n) × (pointsJudged (pointsIn rows at n) p ≡ Accepted) × Standing stripes 0 × SizedRows edge-stripes
+    (p ≤ n) × (pointsJudged today (pointsIn rows at n) p ≡ Accepted) × Standing stripes 0 × SizedRows edge-stripes
 
 abbrev μ-loop : tie.MeasureT-loop
 μ-loop rows at n low₀ high₀ stripes₀ edge-stripes₀ p₀ low high stripes edge-stripes p =

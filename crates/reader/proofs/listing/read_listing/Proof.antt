@@ -3,7 +3,7 @@ use Prim.Native.Nat.{_/_}
 use mathlib.Core.Path.{refl, sym, _∙_}
 use lib.ListN.{length}
 use borrow.Author.Tests.{not-true, not-false}
-use Rattle.model.specs.Limits.{lineBytes}
+use Rattle.model.specs.Limits.{lineBytes, today}
 use Rattle.model.specs.Listing.{readTo}
 use Rattle.reader.proofs.ReadListing.{all-read, stands-turned, stands-going, listing-good, listing-bad, good-lines}
 use borrow.Author.Needs.{needs}
@@ -23,7 +23,7 @@ whole-judged-requires c κs =
     let g = good-lines _ (sym (c .before .before .before .before .before .before .before .before .before .before .before .before .before .is-good-length .ensures) ∙ not-false _ (c .before .before .before .before .before .before .before .before .before .before .before .before .if1 .left)) in
     let e = c .before .before .before .before .before .before .before .before .before .read-lines .ensures in
     let s = c .before .before .before .before .before .before .before .before .before .before .before .before .before .before .before .before .before .args .listing .now in
-    all-read _ _ _ (readTo s (length s / lineBytes)) _ (e .1) (sym (e .0) ∙ c .before .before .before .q .given .1) (g .some) (c .before .before .before .before .before .before .before .before .before .read-lines .kept .1 .1 .1 .0 ∙ c .before .before .before .before .before .before .before .before .before .before .before .before .before .before .before .before .before .pre .places)
+    all-read _ _ _ (readTo today s (length s / lineBytes)) _ (e .1) (sym (e .0) ∙ c .before .before .before .q .given .1) (g .some) (c .before .before .before .before .before .before .before .before .before .read-lines .kept .1 .1 .1 .0 ∙ c .before .before .before .before .before .before .before .before .before .before .before .before .before .before .before .before .before .pre .places)
 
 returns-2 : tie.Need-returns-2
 returns-2 c =

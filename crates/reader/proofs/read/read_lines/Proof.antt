@@ -5,6 +5,7 @@ use native.Mathlib.Omega.{arith}
 use native.Mathlib.Numerals.{add-one}
 use borrow.Author.Needs.{needs}
 use lib.ListN.{length, length-take, length-drop}
+use Rattle.model.specs.Limits.{today}
 use Rattle.model.specs.Listing.{readTo}
 use Rattle.decoded.proofs.WrittenRows.{row-long}
 use Rattle.reader.specs.Scan.{progressOf}
@@ -14,7 +15,7 @@ use Rattle.reader.proofs.read.read_lines.Statement.{statement}
 use Rattle.reader.proofs.read.read_lines.Tie as tie
 
 abbrev Inv-loop : tie.InvT-loop
-Inv-loop listing n rows₀ at₀ p₀ k₀ rows at p k = (k ≤ n) × (length rows ≡ length rows₀) × (length at ≡ length at₀) × ScannedSo rows at k (readTo listing k) × (p ≡ progressOf (readTo listing k))
+Inv-loop listing n rows₀ at₀ p₀ k₀ rows at p k = (k ≤ n) × (length rows ≡ length rows₀) × (length at ≡ length at₀) × ScannedSo rows at k (readTo today listing k) × (p ≡ progressOf (readTo today listing k))
 
 abbrev μ-loop : tie.MeasureT-loop
 μ-loop listing n rows₀ at₀ p₀ k₀ rows at p k = n - k
@@ -30,7 +31,7 @@ after-requires : tie.Need-after-requires Inv-loop μ-loop
 after-requires c κs =
     let s = c .before .before .before .before .before .before .before .before .before in
     let l = c .before .before .before .before .loop in
-    (omega arith, rw (l .inv .4) (within (l .rows) (l .at) (l .k) (readTo (s .args .listing .now) (l .k)) (l .inv .3)))
+    (omega arith, rw (l .inv .4) (within (l .rows) (l .at) (l .k) (readTo today (s .args .listing .now) (l .k)) (l .inv .3)))
 
 same-length : tie.Need-same-length Inv-loop μ-loop
 same-length c = c .before .before .before .before .before .before .before .before .loop .inv .1
@@ -50,7 +51,7 @@ note-requires : tie.Need-note-requires Inv-loop μ-loop
 note-requires c κs =
     let s = c .before .before .before .before .before .before .before .before .before .before .before .before .before in
     let l = c .before .before .before .before .before .before .before .before .loop in
-    (l .inv .2 ∙ s .pre .1 .1, omega arith, rw (l .inv .4) (within (l .rows) (l .at) (l .k) (readTo (s .args .listing .now) (l .k)) (l .inv .3)))
+    (l .inv .2 ∙ s .pre .1 .1, omega arith, rw (l .inv .4) (within (l .rows) (l .at) (l .k) (readTo today (s .args .listing .now) (l .k)) (l .inv .3)))
 
 write-row-requires : tie.Need-write-row-requires Inv-loop μ-loop
 write-row-requires c κs =
