@@ -39,6 +39,9 @@ word-same n h = omega arith
 byte-same : (n : ℕ) → n ≤ 255 → n % 256 ≡ n
 byte-same n h = omega arith
 
+scale-same : (n : ℕ) → n ≤ Limits.greatestScale → n % 65536 ≡ n
+scale-same n h = omega arith
+
 -- a field that holds a plain number has nothing else
 plain-plus : (c : Content) (f : Field) → shaped (Plain c) f ≡ true → plusIn f ≡ valueIn f
 unfolding shaped
@@ -96,7 +99,7 @@ module _ (fs : List Field) where
       let x = h .x in
       let y = h .y in
       let z = h .z in
-      rw (byte-same (F1 fs) (omega arith), byte-same (F2 fs) (h .scale), byte-same (F3 fs) (omega arith), byte-same (variableOrBlank (fieldAt fs 3)) (omega arith)) refl
+      rw (byte-same (F1 fs) (omega arith), scale-same (F2 fs) (h .scale), byte-same (F3 fs) (omega arith), byte-same (variableOrBlank (fieldAt fs 3)) (omega arith)) refl
   line-same DIVM s l d = ap (λ (o : _). instructionLine (Divm (F1 fs) (F2 fs) (F3 fs) o)) (operand-is DIVM s refl (line-limited fs DIVM l d .arithmetic .operand))
   line-same TURN s l d = refl
 

@@ -57,7 +57,7 @@ instructionFrom r =
 
 -- the stripe of a row
 abbrev pub stripeFrom : Row → Stripe
-stripeFrom r = record { x = r .first % 256; a = r .second % 256; y = r .third % 256; z = r .fourth % 256; plus = r .sixth; minus = r .seventh }
+stripeFrom r = record { x = r .first % 256; a = r .second % 65536; y = r .third % 256; z = r .fourth % 256; plus = r .sixth; minus = r .seventh }
 
 -- the claim of a row that holds one
 unfoldable pub claimFrom : Row → Claim

@@ -42,6 +42,13 @@ pub fn word(n: u64) -> u32
     (n % MODULUS) as u32
 }
 
+// The low 16 bits.
+fn scale(n: u64) -> u16
+    ensures { λ r. ⌜ r ≡ n % 65536 ⌝ }
+{
+    (n % 65_536) as u16
+}
+
 // The low 8 bits.
 fn byte(n: u64) -> u8
     ensures { λ r. ⌜ r ≡ n % 256 ⌝ }
@@ -198,7 +205,7 @@ fn stripe_from(r: Row) -> Stripe
 {
     Stripe {
         x: byte(r.first),
-        a: byte(r.second),
+        a: scale(r.second),
         y: byte(r.third),
         z: byte(r.fourth),
         plus: r.sixth,

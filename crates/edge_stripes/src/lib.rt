@@ -21,14 +21,14 @@ ghost use Prim.Native.Nat.{_+_, _<_, _≤_};
 ghost use lib.Dec.{eqb};
 ghost use Rattle.model.specs.declared.claims.Stripe.{Stripe};
 ghost use Rattle.model.specs.declared.machine.Operand.the-variants.{Number};
-ghost use Rattle.model.specs.Limits.{variables, MAX, greatestBound, today};
+ghost use Rattle.model.specs.Limits.{variables, MAX, greatestScale, greatestBound, today};
 ghost use Rattle.model.specs.Transfer as Model;
 ghost use Rattle.model.specs.Transfer.{boundInLimits, ifIs, byNumber, sumStripes, differenceStripes, productStripes, lessStripes, notLessStripes, equalStripes, stripesAlong};
 ghost use Rattle.model.specs.Limited.{OperandLimited, ArithmeticLimited, Limited};
 ghost use Rattle.facts.specs.Sizes as goal;
 ghost use Rattle.facts.specs.Sizes.{greatestPart};
 ghost use Rattle.facts.specs.StripeRows.{SizedRows, stripeAt};
-ghost use Rattle.facts.specs.Known.{rangesOf, stripesOf, Small, Bytes, Ends, Standing};
+ghost use Rattle.facts.specs.Known.{rangesOf, stripesOf, Small, Narrow, Ends, Standing};
 ghost use Rattle.edge_stripes.specs.Plans.{keptOf, addedTo, ShiftLimited, AddedLimited, Does, Extends};
 ghost use Rattle.edge_ranges.specs.Branches.{orderedStripes, matchedStripes};
 
@@ -77,7 +77,7 @@ fn if_is(d: u8, v: u8, n: u64) -> u64
 
 // The stripe once d has become d + up - down.
 fn shifted(s: Stripe, d: u8, up: u64, down: u64) -> Stripe
-    requires { ⌜ Small greatestBound s ⌝ }
+    requires { ⌜ Small greatestBound s × (s .a ≤ greatestScale) ⌝ }
     requires { ⌜ (up ≤ MAX) × (down ≤ MAX) ⌝ }
     ensures { λ r. ⌜ r ≡ Model.shifted d up down s ⌝ }
     ensures { λ r. ⌜ Small greatestPart r ⌝ }
@@ -203,7 +203,7 @@ fn all_shifted(d: usize, up: u64, down: u64) -> Plan
 }
 
 // The stripe x - a * (y + z) >= 0.
-fn stripe(x: usize, a: u8, y: usize, z: usize) -> Stripe
+fn stripe(x: usize, a: u16, y: usize, z: usize) -> Stripe
     requires { ⌜ (x < variables) × (y < variables) × (z ≤ variables) ⌝ }
     ensures { λ r. ⌜ r ≡ Model.stripe x a y z 0 0 ⌝ }
 {
@@ -293,7 +293,7 @@ fn scaled_stripes(d: usize, i: usize, c: u32) -> Plan
     ensures { λ p. ⌜ Does p (λ (ss : List Stripe). productStripes today d i (Number c) ss) ⌝ }
 {
     if (1 <= c) & (c <= GREATEST_SCALE as u32) & (d != i) {
-        return one_and_dropped(stripe(d, c as u8, i, BLANK_VARIABLE), d);
+        return one_and_dropped(stripe(d, c as u16, i, BLANK_VARIABLE), d);
     }
     dropped(d)
 }
@@ -424,13 +424,13 @@ pub fn plan_along<'a>(
 
 // The i-th row as a stripe.
 fn stripe_at(stripes: &[u64; STRIPE_NUMBERS], i: usize) -> Stripe
-    requires { ⌜ (i < goal.edgeStripes) × Bytes (stripeAt (now stripes) i) ⌝ }
+    requires { ⌜ (i < goal.edgeStripes) × Narrow (stripeAt (now stripes) i) ⌝ }
     ensures { λ s. ⌜ s ≡ stripeAt (now (stripes .entry)) i ⌝ }
 {
     let at = i * 6;
     Stripe {
         x: stripes[at] as u8,
-        a: stripes[at + 1] as u8,
+        a: stripes[at + 1] as u16,
         y: stripes[at + 2] as u8,
         z: stripes[at + 3] as u8,
         plus: stripes[at + 4],
@@ -466,7 +466,7 @@ fn append_added(a: AddedStripes, stripes: &mut [u64; STRIPE_NUMBERS]) -> usize
 
 // Writes what is kept of a stripe after the first m stripes, and answers how many there are then.
 fn append_kept(k: KeptStripes, s: Stripe, stripes: &mut [u64; STRIPE_NUMBERS], m: usize) -> usize
-    requires { ⌜ Small greatestBound s ⌝ }
+    requires { ⌜ Small greatestBound s × (s .a ≤ greatestScale) ⌝ }
     requires { ⌜ ShiftLimited k ⌝ }
     requires { ⌜ SizedRows (now stripes) ⌝ }
     requires { ⌜ m < goal.edgeStripes ⌝ }

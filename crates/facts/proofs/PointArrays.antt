@@ -18,7 +18,7 @@ use Rattle.facts.specs.Ends.{SizedEnds}
 use Rattle.facts.specs.StripeRows.{SizedRows, stripeAt, withStripe}
 use Rattle.facts.specs.Laid.{Laid, Sized}
 use Rattle.facts.proofs.WrittenArrays.{set-numbers, row-numbers, stripe-there, stripe-other}
-use Rattle.facts.specs.Known.{rangesOf, known, Ends, Bytes, Standing, AtPoint, AlongEdge}
+use Rattle.facts.specs.Known.{rangesOf, known, Ends, Narrow, Standing, AtPoint, AlongEdge}
 use Rattle.facts.proofs.ArrayContents.{low-held, high-held, rows-held}
 
 -- no unclaimed range reaches above a word
@@ -41,15 +41,15 @@ module _ (low high stripes : List ℕ) (n : ℕ) (at : AtPoint low high stripes 
   point-high v e h = record { ends = record { lows = at .ends .lows; highs = set-numbers variables MAX high v e h (at .ends .highs) }; stripes = at .stripes }
 
   module _ (s : Stripe) (limits : StripeLimited s) (room : n + 1 ≤ greatestStripes) where
-    byte : Bytes s
-    byte = record { x = omega (arith, limits .x); a = omega (arith, limits .scale); y = omega (arith, limits .y); z = omega (arith, limits .z) }
+    narrow : Narrow s
+    narrow = record { x = omega (arith, limits .x); a = limits .scale; y = omega (arith, limits .y); z = omega (arith, limits .z) }
 
-    bytes : (i : ℕ) → i < n + 1 → Bytes (stripeAt (withStripe stripes n s) i)
-    bytes i h = go (ℕ-discrete i n)
+    all-narrow : (i : ℕ) → i < n + 1 → Narrow (stripeAt (withStripe stripes n s) i)
+    all-narrow i h = go (ℕ-discrete i n)
       where
-        go : Dec (i ≡ n) → Bytes (stripeAt (withStripe stripes n s) i)
-        go (yes e) = subst Bytes (sym (ap (stripeAt (withStripe stripes n s)) e ∙ stripe-there stripes n s (standing-sized stripes n (at .stripes)) (omega arith))) byte
-        go (no d) = subst Bytes (sym (stripe-other stripes n s i d)) (at .stripes .bytes i (omega arith))
+        go : Dec (i ≡ n) → Narrow (stripeAt (withStripe stripes n s) i)
+        go (yes e) = subst Narrow (sym (ap (stripeAt (withStripe stripes n s)) e ∙ stripe-there stripes n s (standing-sized stripes n (at .stripes)) (omega arith))) narrow
+        go (no d) = subst Narrow (sym (stripe-other stripes n s i d)) (at .stripes .narrow i (omega arith))
 
     pub point-row : AtPoint low high (withStripe stripes n s) (n + 1)
     point-row = record {
@@ -57,7 +57,7 @@ module _ (low high stripes : List ℕ) (n : ℕ) (at : AtPoint low high stripes 
       stripes = record {
         few = room;
         parts = row-numbers stripes n s greatestBound (omega (arith, limits .x)) (omega (arith, limits .scale)) (omega (arith, limits .y)) (omega (arith, limits .z)) (limits .plus) (limits .minus) (at .stripes .parts);
-        bytes = bytes;
+        narrow = all-narrow;
       };
     }
 

@@ -65,7 +65,7 @@ module _ (l : List ℕ) (j : ℕ) (s : Stripe) where
   pub row-numbers : (b : ℕ) → s .x ≤ b → s .a ≤ b → s .y ≤ b → s .z ≤ b → s .plus ≤ b → s .minus ≤ b → Numbers (edgeStripes * 6) b l → Numbers (edgeStripes * 6) b (withStripe l j s)
   row-numbers b x a y z plus minus n = numbers-written (edgeStripes * 6) b l (j * 6) numbers (x, (a, (y, (z, (plus, (minus, tt)))))) n
 
-  pub row-sized : s .x ≤ 255 → s .a ≤ 255 → s .y ≤ 255 → s .z ≤ 255 → Small s → SizedRows l → SizedRows (withStripe l j s)
+  pub row-sized : s .x ≤ 255 → s .a ≤ 65535 → s .y ≤ 255 → s .z ≤ 255 → Small s → SizedRows l → SizedRows (withStripe l j s)
   row-sized x a y z small n = row-numbers greatestPart (omega arith) (omega arith) (omega arith) (omega arith) (small .plus) (small .minus) n
 
   pub stripe-there : SizedRows l → j < edgeStripes → stripeAt (withStripe l j s) j ≡ s

@@ -6,7 +6,7 @@ use Prim.Native.Nat.{ℕ, zero, suc, _*_, _≤_, _<_}
 use lib.ListN.{length}
 use Rattle.model.specs.declared.claims.Range.{Range}
 use Rattle.model.specs.declared.claims.Stripe.{Stripe}
-use Rattle.model.specs.Limits.{variables, MAX, greatestBound, greatestStripes}
+use Rattle.model.specs.Limits.{variables, MAX, greatestScale, greatestBound, greatestStripes}
 use Rattle.model.specs.Facts.{Facts, between, hi}
 use Rattle.facts.specs.Sizes.{Numbers, edgeStripes}
 use Rattle.facts.specs.Ends.{SizedEnds}
@@ -41,10 +41,10 @@ pub record Small (k : ℕ) (s : Stripe) : Type 0 where
   pub plus : s .plus ≤ k
   pub minus : s .minus ≤ k
 
--- variables and scale are bytes
-pub record Bytes (s : Stripe) : Type 0 where
+-- variables are bytes, and the scale is within its limits
+pub record Narrow (s : Stripe) : Type 0 where
   pub x : s .x < 256
-  pub a : s .a < 256
+  pub a : s .a ≤ greatestScale
   pub y : s .y < 256
   pub z : s .z < 256
 
@@ -57,7 +57,7 @@ pub record Ends (low high : List ℕ) : Type 0 where
 pub record Standing (rows : List ℕ) (n : ℕ) : Type 0 where
   pub few : n ≤ greatestStripes
   pub parts : Numbers (edgeStripes * 6) greatestBound rows
-  pub bytes : (i : ℕ) → i < n → Bytes (stripeAt rows i)
+  pub narrow : (i : ℕ) → i < n → Narrow (stripeAt rows i)
 
 -- the arrays of a point
 pub record AtPoint (low high rows : List ℕ) (n : ℕ) : Type 0 where

@@ -13,6 +13,13 @@ pub fn wide(v: u8) -> u64
     v as u64
 }
 
+// A scale as a number of 64 bits.
+fn wide_scale(a: u16) -> u64
+    ensures { λ r. ⌜ (r ≡ a) × (r < 65536) ⌝ }
+{
+    a as u64
+}
+
 // Writes the i-th row.
 pub fn write_stripe(rows: &mut [u64; STRIPE_NUMBERS], i: usize, s: Stripe)
     requires { ⌜ SizedRows (now rows) ⌝ }
@@ -20,7 +27,7 @@ pub fn write_stripe(rows: &mut [u64; STRIPE_NUMBERS], i: usize, s: Stripe)
     ensures { λ r. ⌜ (now (rows .exit) ≡ withStripe (now (rows .entry)) i s) × SizedRows (now (rows .exit)) ⌝ }
 {
     let x = wide(s.x);
-    let a = wide(s.a);
+    let a = wide_scale(s.a);
     let y = wide(s.y);
     let z = wide(s.z);
     let at = i * 6;

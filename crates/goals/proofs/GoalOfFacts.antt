@@ -15,7 +15,7 @@ use Rattle.model.specs.Transfer.{stripe}
 use Rattle.model.specs.Follows as known
 use Rattle.model.specs.Follows.{covers, throughLink, claimFollows}
 use Rattle.model.specs.Limited.{StripeLimited, ClaimLimited}
-use Rattle.facts.specs.Sizes.{Small}
+use Rattle.facts.specs.Sizes.{Room}
 use Rattle.facts.specs.Ends.{HasHighs}
 use Rattle.facts.specs.StripeRows.{HasRows}
 use Rattle.goals.specs.Links.{linkAt, Gathered}
@@ -73,8 +73,8 @@ module _ (f : Facts) (c : Claim) where
   unfolding claimFollows
   turn-agrees r e = rw e refl
 
--- the goal of a claim within its limits is small
-pub small-goal : (c : Claim) (g : Stripe) → c ≡ Strp g → ClaimLimited c → Small g
-small-goal c g e h =
+-- the goal of a claim within its limits leaves room for all links
+pub goal-room : (c : Claim) (g : Stripe) → c ≡ Strp g → ClaimLimited c → Room greatestLinks g
+goal-room c g e h =
     let limited : StripeLimited g = subst ClaimLimited e h in
-    record { plus = omega arith; minus = omega arith }
+    record { scale = limited .scale; plus = omega arith; minus = omega arith }

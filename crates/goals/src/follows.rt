@@ -19,7 +19,7 @@ ghost use Rattle.model.specs.Transfer.{stripe};
 ghost use Rattle.model.specs.Follows;
 ghost use Rattle.model.specs.Follows.{claimFollows};
 ghost use Rattle.model.specs.Limited.{ClaimLimited};
-ghost use Rattle.facts.specs.Sizes.{Small, Room};
+ghost use Rattle.facts.specs.Sizes.{Room};
 ghost use Rattle.facts.specs.Ends.{SizedEnds};
 ghost use Rattle.goals.specs.Links.{linkAt};
 ghost use Rattle.facts.specs.Laid.{Laid, Sized};
@@ -31,7 +31,7 @@ fn by_ends(
     low: u64,
     high: &[u64; VARIABLES],
     x: u64,
-    a: u8,
+    a: u16,
     y: u64,
     z: u64,
     plus: u64,
@@ -52,7 +52,7 @@ fn at_once<'a>(
     stripes: &'a [u64; STRIPE_NUMBERS],
     count: usize,
     x: u64,
-    a: u8,
+    a: u16,
     y: u64,
     z: u64,
     plus: u64,
@@ -77,7 +77,7 @@ fn follows<'a>(
     links: &'a [u64; LINK_NUMBERS],
     all: usize,
     x: u64,
-    a: u8,
+    a: u16,
     y: u64,
     z: u64,
     plus: u64,
@@ -121,7 +121,7 @@ fn linked<'a>(
     links: &'a [u64; LINK_NUMBERS],
     all: usize,
     x: u64,
-    a: u8,
+    a: u16,
     y: u64,
     z: u64,
     plus: u64,
@@ -169,7 +169,7 @@ fn through<'a>(
     links: &'a [u64; LINK_NUMBERS],
     all: usize,
     x: u64,
-    a: u8,
+    a: u16,
     y: u64,
     z: u64,
     plus: u64,
@@ -234,7 +234,7 @@ pub fn goal_follows<'a>(
     g: Stripe,
 ) -> bool
     requires { ⌜ Sized (now low) (now high) (now stripes) count ⌝ }
-    requires { ⌜ Small g ⌝ }
+    requires { ⌜ Room greatestLinks g ⌝ }
     ensures { λ r. ⌜ ((f : Facts) → Laid (now (low .entry)) (now (high .entry)) (now (stripes .entry)) count f → r ≡ Follows.follows f greatestLinks g) ⌝ }
 {
     let bottom = end_of(low, g.x as usize);

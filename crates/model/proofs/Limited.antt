@@ -3,16 +3,18 @@ use mathlib.Core.Path.{_≡_, refl}
 use mathlib.Core.Bool.{Bool, true, false, _&&_, _||_, not, cond}
 use mathlib.Core.List.{List}
 use Prim.Native.Nat.{ℕ, _≤_, _<_}
+use native.Mathlib.Nat.{mul-le-mul}
 use native.Mathlib.Omega.{arith}
 use lib.Dec.{ltb, leb, eqb}
 use borrow.Author.Tests.{ltb-true, leb-true, eqb-false, not-true}
-use Rattle.model.specs.Types.{Field, Blank, Number, Negative, Misshapen, Word, STOP, SETC, COPY, ADDW, SUBW, MULW, DIVF, LOAD, STOR, JUMP, BLTU, BEQU, LEAS, MOST, STRP, DIVM, TURN, FoundWord, Unknown, Known, empty, variable, number, refusedLine, LineBytes, FieldShape, NumberLimits, SameRegister, Accepted, refused}
+use Rattle.model.specs.Types.{Field, Blank, Number, Negative, Misshapen, Word, STOP, SETC, COPY, ADDW, SUBW, MULW, DIVF, LOAD, STOR, JUMP, BLTU, BEQU, LEAS, MOST, STRP, DIVM, TURN, FoundWord, Unknown, Known, empty, Width, One, Two, Four, variable, number, refusedLine, LineBytes, FieldShape, NumberLimits, SameRegister, Accepted, refused}
 use Rattle.model.specs.Limits.{registers, variables, MAX, greatestSize, greatestScale, greatestOffset, greatestBound, greatestPoints, today}
 use Rattle.model.specs.Text.{valueIn}
 use Rattle.model.specs.Words.{words, wordAmong, fieldsOf, shaped, within, allowed}
 use Rattle.model.specs.Lines.{wellSpelled, fieldsIn, fieldAt, F1, F2, F3, F4, F5, F6, kindAt, inShape, inLimits, registersDiffer, judged, operandFrom, variableOrBlank, plusIn, minusIn, lineFrom, lineOr, lineFound, readLine}
 use Rattle.model.specs.Facts.{registerRange, sizeRange, unclaimedRange}
-use Rattle.model.specs.Limited.{OperandLimited, ArithmeticLimited, AccessLimited, BranchLimited, LineLimited}
+use Rattle.model.specs.Limited.{OperandLimited, ArithmeticLimited, AccessLimited, AccessEndsBelow, BranchLimited, LineLimited}
+use Rattle.model.specs.Machine.{bytesOf}
 use Rattle.model.proofs.Tests.{and-left, and-right, cond-cases, every-below}
 
 operand-limited : (f5 v : ℕ) → cond (eqb f5 0) (ltb v variables) (leb v MAX) ≡ true → OperandLimited (operandFrom f5 v)
@@ -44,6 +46,15 @@ bound-limited Misshapen m h = omega arith
 
 scale-limited : (v : ℕ) → (leb 1 v && leb v greatestScale) ≡ true → (1 ≤ v) × (v ≤ greatestScale)
 scale-limited v e = (leb-true 1 v (and-left (leb 1 v) _ e), leb-true v greatestScale (and-right (leb 1 v) _ e))
+
+-- the greatest scale times the greatest value, an offset and the bytes of a width
+pub access-ends-below : AccessEndsBelow
+access-ends-below a i k x w h small = omega (arith, mul-le-mul (h .scale) small, width-few w)
+  where
+    width-few : (w : Width) → bytesOf w ≤ 4
+    width-few One = omega arith
+    width-few Two = omega arith
+    width-few Four = omega arith
 
 -- each word, by the limits of its fields
 module _ (fs : List Field) where

@@ -7,10 +7,10 @@ pub mod Words
 pub mod Answers
 pub mod Lines
 pub mod Facts
-pub mod Limited
 pub mod Listing
 pub mod Writing
 pub mod Machine
+pub mod Limited
 pub mod Transfer
 pub mod Follows
 pub mod Check

@@ -1,10 +1,11 @@
 -- Document 01, 'The machine' and 'Claims': the limits of the operands, instructions, stripes and claims that an accepted line can hold.
 -- The contracts of the code ask for them; that every line that is read keeps them is proved.
-use Prim.Native.Nat.{ℕ, _≤_, _<_}
+use Prim.Native.Nat.{ℕ, _+_, _^_, _≤_, _<_}
 use mathlib.Core.Path.{_≡_}
-use Rattle.model.specs.Types.{Operand, variable, number, Instruction, Stop, Setc, Copy, Addw, Subw, Mulw, Divf, Load, Stor, Jump, Bltu, Bequ, Divm, Stripe, Claim, Leas, Most, Strp, Turn, Line, refusedLine, claimLine, instructionLine}
+use Rattle.model.specs.Types.{Width, Operand, variable, number, Instruction, Stop, Setc, Copy, Addw, Subw, Mulw, Divf, Load, Stor, Jump, Bltu, Bequ, Divm, Stripe, Claim, Leas, Most, Strp, Turn, Line, refusedLine, claimLine, instructionLine}
 use Rattle.model.specs.Limits.{registers, variables, blankVariable, MAX, greatestScale, greatestOffset, greatestBound, greatestPoints}
 use Rattle.model.specs.Facts.{unclaimedRange}
+use Rattle.model.specs.Machine.{bytesOf, address}
 
 -- an operand: a variable, or a number that a register can hold
 abbrev pub OperandLimited : Operand → Type 0
@@ -29,6 +30,10 @@ pub record AccessLimited (a i k : ℕ) : Type 0 where
   pub scale : a ≤ greatestScale
   pub variable : i < variables
   pub offset : k ≤ greatestOffset
+
+-- as a promise: an access ends below 2 to the 45th byte, whatever value its variable has, so that 64 bits hold its address
+abbrev pub AccessEndsBelow : Type 0
+AccessEndsBelow = (a i k x : ℕ) (w : Width) → AccessLimited a i k → x ≤ MAX → address a x k + bytesOf w < 2 ^ 45
 
 -- the fields of BLTU and BEQU
 pub record BranchLimited (i t : ℕ) (o : Operand) : Type 0 where

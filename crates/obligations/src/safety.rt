@@ -91,7 +91,7 @@ fn safe_by_goal<'a>(
     let n = bytes(w);
     let g = Stripe {
         x,
-        a: a as u8,
+        a: a as u16,
         y: i as u8,
         z: BLANK_VARIABLE as u8,
         plus: k as u64 + n,

@@ -32,7 +32,7 @@ facts-none = refl
 
 -- no stripe stands among zeros
 pub none-standing : Standing (replicate (edgeStripes * 6) 0) 0
-none-standing = record { few = omega arith; parts = zeros (edgeStripes * 6) greatestBound; bytes = λ i h. absurd (not-suc-le-zero h) }
+none-standing = record { few = omega arith; parts = zeros (edgeStripes * 6) greatestBound; narrow = λ i h. absurd (not-suc-le-zero h) }
 
 module _ (rows : List ℕ) (from : ℕ) where
   -- arrays that claim nothing know what no claim states

@@ -11,7 +11,7 @@ ghost use Rattle.model.specs.Facts as Model;
 ghost use Rattle.model.specs.Facts.{valueAt, stripeHolds};
 ghost use Rattle.facts.specs.Sizes.{edgeStripes, Numbers};
 ghost use Rattle.facts.specs.StripeRows.{stripeAt};
-ghost use Rattle.facts.specs.Known.{rangesOf, stripesOf, known, Ends, Bytes, Standing, AtPoint};
+ghost use Rattle.facts.specs.Known.{rangesOf, stripesOf, known, Ends, Narrow, Standing, AtPoint};
 ghost use Rattle.state_tests.specs.Meets.{inOwnRange, inRanges};
 
 // A value as a number that ends and bounds are added to.
@@ -73,7 +73,7 @@ fn stripe_holds<'a>(
 ) -> bool
     requires { ⌜ length (now values) ≡ variables ⌝ }
     requires { ⌜ Numbers (edgeStripes * 6) greatestBound (now stripes) ⌝ }
-    requires { ⌜ (i < edgeStripes) × Bytes (stripeAt (now stripes) i) ⌝ }
+    requires { ⌜ (i < edgeStripes) × Narrow (stripeAt (now stripes) i) ⌝ }
     ensures { λ b. ⌜ b ≡ stripeHolds (now (values .entry)) (stripeAt (now (stripes .entry)) i) ⌝ }
 {
     let at = i * 6;

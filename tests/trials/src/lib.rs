@@ -6,6 +6,7 @@ pub mod claim_lines;
 pub mod comparison;
 pub mod count;
 pub mod draft;
+pub mod earlier_limits;
 pub mod families;
 pub mod random;
 pub mod runs;

@@ -2,7 +2,8 @@
 use mathlib.Core.Path.{_≡_, sym, subst}
 use Prim.Native.Nat.{ℕ, _+_, _-_, _≤_}
 use native.Mathlib.Omega.{arith}
-use Rattle.model.specs.Limits.{greatestBound}
+use Rattle.model.specs.declared.claims.Stripe.{Stripe}
+use Rattle.model.specs.Limits.{greatestScale, greatestBound}
 use Rattle.facts.specs.Known.{stripesOf, Small}
 use Rattle.edge_stripes.specs.Plans.{keptOf, Extends}
 use Rattle.edge_stripes.proofs.WrittenStripes.{kept-none, kept-more, standing-small}
@@ -24,7 +25,7 @@ stripe-at-requires : tie.Need-stripe-at-requires Inv-loop μ-loop
 stripe-at-requires c κs =
     let start = c .before .before in
     let at = c .before .loop in
-    (omega (arith, start .pre .1 .0 .few), start .pre .1 .0 .bytes (at .i) (omega arith))
+    (omega (arith, start .pre .1 .0 .few), start .pre .1 .0 .narrow (at .i) (omega arith))
 
 append-kept-requires : tie.Need-append-kept-requires Inv-loop μ-loop
 append-kept-requires c κs =
@@ -32,7 +33,7 @@ append-kept-requires c κs =
     let a = start .args in
     let at = c .before .before .before .loop in
     let standing = start .pre .1 .0 in
-    (subst (Small greatestBound) (sym (c .before .stripe-at .ensures)) (standing-small (a .stripes .now) (a .n) (at .i) standing (omega arith)), (start .pre .0, (at .inv .2 .sized, omega (arith, standing .few, start .pre .1 .1 .1))))
+    (subst (λ (s : Stripe). Small greatestBound s × (s .a ≤ greatestScale)) (sym (c .before .stripe-at .ensures)) (standing-small (a .stripes .now) (a .n) (at .i) standing (omega arith), standing .narrow (at .i) (omega arith) .a), (start .pre .0, (at .inv .2 .sized, omega (arith, standing .few, start .pre .1 .1 .1))))
 
 loop-again : tie.Need-loop-again Inv-loop μ-loop
 loop-again c =

@@ -1,6 +1,6 @@
 //! The families of listings whose bound is asked for.
 
-use crate::families::{dead_stretches, turn_lines, ways_back, without_turn, Family};
+use crate::families::{dead_stretches, long_records, turn_lines, ways_back, without_turn, Family};
 
 /// One listing in so many of the checker's families is asked; long listings are rare as they are.
 const SHARE: u64 = 40;
@@ -39,6 +39,7 @@ pub fn bound_families() -> Vec<Family> {
         Family::new("loops of 512 and 513 points", 78, 160, turn_lines::many_points),
         Family::new("65,520 and 65,560 bytes under a TURN line", 79, 10, turn_lines::many_bytes),
         Family::new("counts and ways back at empty points", 81, 4_000, dead_stretches::in_loops),
+        Family::new("loops that count down, with long records", 91, 1_500, long_records::in_loops),
     ];
     families.extend(without_turn().into_iter().map(shares));
     families

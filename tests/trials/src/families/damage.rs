@@ -154,8 +154,9 @@ fn limits(random: &mut Random, text: &mut Vec<u8>) {
 }
 
 fn spoil_limit(random: &mut Random, line: &mut [u8], field: usize) {
-    let small = ["0", "2", "3", "8", "16", "17", "18", "256", "512", "999", "9999"];
-    let large = ["18", "65536", "65537", "4294967296", "4398046511105", "999999999999999"];
+    let small = ["0", "2", "3", "8", "16", "17", "18", "256", "512", "999", "4096", "9999"];
+    let large =
+        ["18", "65536", "65537", "4294967296", "4398046511105", "70368744177665", "-70368744177665", "999999999999999"];
     let number = if field == 5 { random.pick(&large) } else { random.pick(&small) };
     write(line, field, number);
 }

@@ -5,7 +5,9 @@ mod columns;
 pub(crate) mod damage;
 pub(crate) mod dead_stretches;
 pub(crate) mod empty_points;
+pub(crate) mod far_bounds;
 pub(crate) mod limits;
+pub(crate) mod long_records;
 pub(crate) mod nudges;
 pub(crate) mod pieces;
 pub(crate) mod probes;
@@ -53,14 +55,14 @@ pub fn of_columns() -> Vec<Family> {
     ]
 }
 
-/// Every family of the comparison; together more than 400,000 listings.
+/// Every family of the comparison; together more than 450,000 listings.
 pub fn all() -> Vec<Family> {
     without_turn().into_iter().chain(under_turn()).collect()
 }
 
 /// Families without TURN lines.
 pub(crate) fn without_turn() -> Vec<Family> {
-    of_points().into_iter().chain(of_empty_points()).collect()
+    of_points().into_iter().chain(of_empty_points()).chain(of_long_records()).collect()
 }
 
 /// Families with TURN lines.
@@ -128,5 +130,20 @@ fn of_empty_points() -> Vec<Family> {
         Family::new("routines with dead stretches, one field nudged", 58, 400, dead_stretches::nudged),
         Family::new("dead stretches, damaged", 59, 250, dead_stretches::damaged),
         Family::new("dead stretches of 512 and 513 points", 60, 200, dead_stretches::many_points),
+    ]
+}
+
+/// Families with scales and bounds at and beside their limits.
+fn of_long_records() -> Vec<Family> {
+    vec![
+        Family::new("stripes of any scale", 82, 6_000, long_records::stripes),
+        Family::new("products by factors at and beside a scale", 83, 8_000, long_records::products),
+        Family::new("accesses of any scale at the end of a table", 84, 8_000, long_records::accesses),
+        Family::new("addresses that a narrow number would wrap", 85, 8_000, long_records::addresses),
+        Family::new("bounds written at and beside their ends", 86, 7_000, far_bounds::written),
+        Family::new("bounds shifted to their ends and past them", 87, 16_000, far_bounds::shifted),
+        Family::new("goals that links carry beyond the limits", 88, 12_000, far_bounds::far_goals),
+        Family::new("routines over long records", 89, 2_000, long_records::routines),
+        Family::new("routines over long records, one field nudged", 90, 400, long_records::nudged),
     ]
 }

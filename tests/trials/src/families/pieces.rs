@@ -3,11 +3,33 @@
 use crate::draft::DraftPoint;
 use crate::random::Random;
 use reference::{
-    Arithmetic, Claim, Comparison, Instruction, Operand, Stripe, Whole, BOUND_LIMIT, MAX, REGISTERS, SIZE_LIMIT,
+    Arithmetic, Claim, Comparison, Instruction, Limits, Operand, Stripe, Whole, MAX, REGISTERS, SIZE_LIMIT,
 };
 
-const CORNERS: [Whole; 20] =
-    [0, 0, 1, 1, 2, 3, 4, 5, 7, 8, 100, 255, 256, 65_535, 65_536, 65_537, 1 << 31, (1 << 31) + 1, MAX - 1, MAX];
+const CORNERS: [Whole; 22] = [
+    0,
+    0,
+    1,
+    1,
+    2,
+    3,
+    4,
+    5,
+    7,
+    8,
+    100,
+    255,
+    256,
+    4_095,
+    4_096,
+    65_535,
+    65_536,
+    65_537,
+    1 << 31,
+    (1 << 31) + 1,
+    MAX - 1,
+    MAX,
+];
 
 /// A value of a register.
 pub fn value(random: &mut Random) -> Whole {
@@ -32,19 +54,24 @@ pub fn greatest(v: usize) -> Whole {
     }
 }
 
+/// The limits of today, or the earlier ones.
+pub fn limits(random: &mut Random) -> Limits {
+    random.pick(&[Limits::TODAY, Limits::EARLIER])
+}
+
 pub fn bound(random: &mut Random) -> Whole {
-    let sign = random.pick(&[1, -1]);
+    let (sign, end) = (random.pick(&[1, -1]), limits(random).bound);
     match random.below(10) {
         0..=4 => sign * random.between(0, 9),
         5 => sign * value(random),
-        6 => sign * (BOUND_LIMIT - random.between(0, 3)),
-        7 => sign * random.between(0, BOUND_LIMIT),
+        6 => sign * (end - random.between(0, 3)),
+        7 => sign * random.between(0, end),
         _ => -random.between(0, 2 * MAX),
     }
 }
 
 pub fn scale(random: &mut Random) -> Whole {
-    random.pick(&[1, 1, 1, 1, 2, 3, 4, 8, 100, 254, 255])
+    random.pick(&[1, 1, 1, 1, 1, 1, 1, 1, 2, 2, 3, 4, 8, 8, 100, 254, 255, 255, 256, 4_094, 4_095])
 }
 
 pub fn width(random: &mut Random) -> Whole {
@@ -134,7 +161,7 @@ pub fn arithmetic(random: &mut Random, pool: &[usize]) -> Instruction {
     let o = match operand(random, pool) {
         // a factor at or beside the ends of a scale, often enough
         Operand::Number(_) if kind == Arithmetic::Multiply && random.percent(70) => {
-            Operand::Number(random.pick(&[0, 1, 2, 3, 254, 255, 255, 256]))
+            Operand::Number(random.pick(&[0, 1, 2, 3, 255, 256, 257, 4_094, 4_095, 4_095, 4_096, 4_097]))
         }
         operand => operand,
     };

@@ -5,7 +5,7 @@ use super::pieces;
 use crate::draft::{Draft, DraftPoint};
 use crate::random::Random;
 use reference::{
-    edges, Arithmetic, Claim, Edge, Instruction, Known, Operand, Stripe, Whole, BOUND_LIMIT, RESULTS_SIZE, TRAYS_SIZE,
+    edges, Arithmetic, Claim, Edge, Instruction, Known, Limits, Operand, Stripe, Whole, RESULTS_SIZE, TRAYS_SIZE,
 };
 
 /// Random claims, a random instruction, and after it claims at, below and above what follows.
@@ -59,8 +59,10 @@ fn tempting(instruction: &Instruction) -> Vec<Stripe> {
             Operand::Number(c) => vec![difference(d, i, -c), difference(i, d, c)],
             Operand::Variable(v) => vec![Stripe { z: Some(v), ..difference(i, d, 0) }],
         },
-        Instruction::Compute { kind: Arithmetic::Multiply, d, i, o: Operand::Number(c @ 1..=255) } => {
-            vec![Stripe { a: c, ..difference(d, i, 0) }]
+        Instruction::Compute { kind: Arithmetic::Multiply, d, i, o: Operand::Number(c) } => {
+            // a factor that is no scale may be taken for one by its low bits
+            let scales = [c, c % 256, c % 4_096].into_iter().filter(|&a| Limits::TODAY.has_scale(a));
+            scales.map(|a| Stripe { a, ..difference(d, i, 0) }).collect()
         }
         Instruction::Branch { i, o: Operand::Variable(v), .. } => {
             vec![difference(v, i, 1), difference(v, i, 0), difference(i, v, 0)]
@@ -184,7 +186,7 @@ fn best(known: &Known, goal: &Stripe, links: u32) -> Whole {
 pub(super) fn within_limits(claim: &Claim) -> bool {
     match *claim {
         Claim::Least { v, value } | Claim::Most { v, value } => (0..=pieces::greatest(v)).contains(&value),
-        Claim::Stripe(stripe) => stripe.b.abs() <= BOUND_LIMIT,
+        Claim::Stripe(stripe) => Limits::TODAY.has_bound(stripe.b),
     }
 }
 
@@ -216,7 +218,7 @@ pub fn chain(random: &mut Random) -> Vec<Vec<u8>> {
 }
 
 /// A listing whose first point knows the stripes, in any order, and owes the goal at once or at the next point.
-fn asked(random: &mut Random, mut stripes: Vec<Stripe>, by_ranges: bool, goal: Stripe) -> Vec<u8> {
+pub(super) fn asked(random: &mut Random, mut stripes: Vec<Stripe>, by_ranges: bool, goal: Stripe) -> Vec<u8> {
     let standing = stripes[0];
     let mut draft = Draft::default();
     let offset = goal.b - 1;
@@ -307,7 +309,7 @@ fn weak(claim: Claim) -> Claim {
     match claim {
         Claim::Least { v, value } => Claim::Least { v, value: value % 2 },
         Claim::Most { v, value } => Claim::Most { v, value: pieces::greatest(v) - value % 2 },
-        Claim::Stripe(stripe) => Claim::Stripe(Stripe { b: -stripe.b.abs().max(1 << 40), ..stripe }),
+        Claim::Stripe(stripe) => Claim::Stripe(Stripe { b: -stripe.b.abs().max(1 << 44), ..stripe }),
     }
 }
 
@@ -329,11 +331,12 @@ pub fn shifted(random: &mut Random) -> Vec<Vec<u8>> {
     let mut goals = Vec::new();
     for _ in 0..1 + random.below(3) {
         let stripe = pieces::stripe(random, &pool);
-        let after = random.pick(&[BOUND_LIMIT, BOUND_LIMIT, BOUND_LIMIT, -BOUND_LIMIT]) + random.between(-1, 1);
+        let end = pieces::limits(random).bound;
+        let after = random.pick(&[end, end, end, -end]) + random.between(-1, 1);
         let b = after - moved(&stripe);
-        if b.abs() <= BOUND_LIMIT {
+        if Limits::TODAY.has_bound(b) {
             point.claim(Claim::Stripe(Stripe { b, ..stripe }));
-            goals.push(Stripe { b: after.clamp(-BOUND_LIMIT, BOUND_LIMIT), ..stripe });
+            goals.push(Stripe { b: after.clamp(-end, end), ..stripe });
         }
     }
     let next = draft.push(Instruction::Stop);

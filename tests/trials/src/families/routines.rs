@@ -6,7 +6,7 @@ use crate::draft::{Draft, DraftPoint};
 use crate::random::Random;
 use reference::refusals::{ACCESS_MAY_LEAVE, CLAIM_DOES_NOT_FOLLOW, DIVISOR_MAY_BE_ZERO, EMPTY_START};
 use reference::{
-    check, edges, Arithmetic, Claim, Comparison, Instruction, Known, Operand, Stripe, Whole, BOUND_LIMIT, RESULTS_SIZE,
+    check, edges, Arithmetic, Claim, Comparison, Instruction, Known, Limits, Operand, Stripe, Whole, RESULTS_SIZE,
     TRAYS_SIZE,
 };
 
@@ -66,14 +66,25 @@ impl Loop {
 /// A whole routine: a few straight steps, one or two loops, and STOP.
 pub fn routine(random: &mut Random) -> Draft {
     let registers = distinct_registers(random);
-    let draft = unclaimed(random, &registers);
+    let scale = random.pick(&[1, 2, 3, 4, 8, 16, 255, 256, 300, 4_095]);
+    let draft = unclaimed(random, &registers, scale);
+    claimed(random, draft)
+}
+
+/// A routine over records of 256 to 4,095 bytes.
+pub fn long_records(random: &mut Random) -> Draft {
+    let registers = distinct_registers(random);
+    let any = random.between(256, 4_095);
+    let scale = random.pick(&[256, 257, 300, 512, 4_094, 4_095, any]);
+    let draft = unclaimed(random, &registers, scale);
     claimed(random, draft)
 }
 
 /// A routine that divides with remainder.
 pub fn dealing(random: &mut Random) -> Draft {
     let registers = distinct_registers(random);
-    let mut draft = unclaimed(random, &registers);
+    let scale = random.pick(&[1, 2, 3, 4, 8, 16, 255]);
+    let mut draft = unclaimed(random, &registers, scale);
     draft.points.iter_mut().for_each(|point| deal(random, &registers[CONTROL..], &mut point.instruction));
     claimed(random, draft)
 }
@@ -91,14 +102,14 @@ fn deal(random: &mut Random, scratch: &[usize], instruction: &mut Instruction) {
 }
 
 /// The steps with the claims that the loops need.
-fn unclaimed(random: &mut Random, registers: &[usize]) -> Draft {
+fn unclaimed(random: &mut Random, registers: &[usize], scale: Whole) -> Draft {
     let (control, scratch) = registers.split_at(CONTROL);
     let mut draft = Draft::default();
     let over = Loop {
         index: control[0],
         count: control[1],
         size: random.pick(&[TRAYS_SIZE, RESULTS_SIZE]),
-        scale: random.pick(&[1, 2, 3, 4, 8, 16, 255]),
+        scale,
         room: random.between(0, 6),
     };
     straight(random, &mut draft, scratch, &[over.whole()]);
@@ -227,7 +238,7 @@ fn claim_some(random: &mut Random, known: &Known, share: usize, point: &mut Draf
     }
     for stripe in &known.stripes {
         let slack = random.pick(&[0, 0, 1, 5]);
-        if random.percent(share) && (-BOUND_LIMIT + slack..=BOUND_LIMIT).contains(&stripe.b) {
+        if random.percent(share) && Limits::TODAY.has_bound(stripe.b - slack) {
             point.claim(Claim::Stripe(Stripe { b: stripe.b - slack, ..*stripe }));
         }
     }

@@ -5,6 +5,7 @@ mod call;
 mod comparison;
 mod dead_stretches;
 mod families;
+mod long_records;
 mod quotients;
 mod remainders;
 mod resume;

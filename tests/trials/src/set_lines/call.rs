@@ -39,7 +39,7 @@ pub fn set_by_reference(call: &SetCall) -> SetAfter {
 }
 
 impl SetCall {
-    fn fields(&self) -> [Field; 6] {
+    pub fn fields(&self) -> [Field; 6] {
         std::array::from_fn(|at| match (self.kinds[at], Whole::from(self.numbers[at])) {
             (BLANK, _) => Field::Blank,
             (NUMBER, number) => Field::Number(number),

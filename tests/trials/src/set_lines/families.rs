@@ -1,7 +1,7 @@
 //! The families of calls that set a line. Each batch comes from a seed of its own; some go through a table by its number.
 
 use super::call::SetCall;
-use super::{fields, places, registers, several, turns, words};
+use super::{fields, long_records, places, registers, several, turns, words};
 use crate::random::Random;
 
 pub struct SetFamily {
@@ -37,6 +37,7 @@ pub fn set_families() -> Vec<SetFamily> {
         family("every length of a listing with every line", 27, places::BATCHES, places::every_line),
         family("several faults at once", 28, 30_000, several::several),
         family("one register for quotient and remainder", 29, 500, registers::one_twice),
+        family("scales and bounds at and beside their limits", 31, 5_000, long_records::at_limits),
         family("TURN lines, right in every field and not", 30, 4_000, turns::turn),
     ]
 }

@@ -5,6 +5,7 @@ mod comparison;
 mod families;
 mod fields;
 mod laws;
+mod long_records;
 mod models;
 mod places;
 mod registers;

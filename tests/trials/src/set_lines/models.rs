@@ -3,7 +3,7 @@
 use super::call::SetCall;
 use super::places::{before, place};
 use crate::random::Random;
-use reference::{Whole, BOUND_LIMIT, MAX, SIZE_LIMIT};
+use reference::{Limits, Whole, MAX, SIZE_LIMIT};
 
 /// A word, and for each field numbers that fit, the ends of its limits among them; none where the field is blank.
 #[derive(Clone, Copy)]
@@ -21,14 +21,18 @@ const VARIABLE: &[Whole] = &[0, 1, 9, 10, 15, 16, 17];
 const SIZE: &[Whole] = &[16, 17];
 const WIDTH: &[Whole] = &[1, 2, 4];
 const TABLE: &[Whole] = &[0, 1];
-const SCALE: &[Whole] = &[1, 2, 9, 10, 99, 100, 254, 255];
+const SCALE: &[Whole] = &[1, 2, 9, 10, 99, 100, 255, 256, 999, 1_000, 4_094, 4_095];
 const TARGET: &[Whole] = &[0, 1, 9, 10, 99, 100, 510, 511];
 const OFFSET: &[Whole] = &[0, 1, 10, 999, 1_000, 65_534, 65_535];
 const VALUE: &[Whole] = &[0, 1, 17, 18, 65_536, 65_537, 99_999_999, 100_000_000, 1 << 31, MAX - 1, MAX];
 const SIZE_END: &[Whole] = &[0, 1, 10, 9_999, 10_000, SIZE_LIMIT - 1, SIZE_LIMIT];
 const BOUND: &[Whole] = &[
-    -BOUND_LIMIT,
-    1 - BOUND_LIMIT,
+    -Limits::TODAY.bound,
+    1 - Limits::TODAY.bound,
+    -10_000_000_000_000,
+    -9_999_999_999_999,
+    -Limits::EARLIER.bound - 1,
+    -Limits::EARLIER.bound,
     -1_000_000_000_000,
     -999_999_999_999,
     -MAX,
@@ -40,8 +44,11 @@ const BOUND: &[Whole] = &[
     10,
     MAX + 1,
     999_999_999_999,
-    BOUND_LIMIT - 1,
-    BOUND_LIMIT,
+    Limits::EARLIER.bound,
+    Limits::EARLIER.bound + 1,
+    10_000_000_000_000,
+    Limits::TODAY.bound - 1,
+    Limits::TODAY.bound,
 ];
 const IS_VARIABLE: &[Whole] = &[0];
 const IS_NUMBER: &[Whole] = &[1];
@@ -126,24 +133,27 @@ pub fn random_number(random: &mut Random) -> u64 {
 }
 
 /// Ends of limits, powers of 2, and numbers that come out small where high bits are lost.
-const CORNERS: [u64; 18] = [
+const CORNERS: [u64; 21] = [
     1,
     3,
     15,
     17,
     255,
     511,
+    4_095,
     65_535,
     SIZE_LIMIT as u64,
     (1 << 16) + 16,
     1 << 31,
     MAX as u64,
     (1 << 32) + 4,
-    BOUND_LIMIT as u64,
+    Limits::EARLIER.bound as u64,
+    Limits::TODAY.bound as u64,
     1 << 62,
     (1 << 63) - 1,
     1 << 63,
-    u64::MAX - BOUND_LIMIT as u64,
+    u64::MAX - Limits::EARLIER.bound as u64,
+    u64::MAX - Limits::TODAY.bound as u64,
     u64::MAX - 1,
 ];
 

@@ -1,6 +1,6 @@
 -- Each kind of claim by its own test. Assumes nothing.
 use mathlib.Core.Path.{_∙_}
-use Rattle.goals.proofs.GoalOfFacts.{leas-agrees, most-agrees, stripe-agrees, turn-agrees, small-goal}
+use Rattle.goals.proofs.GoalOfFacts.{leas-agrees, most-agrees, stripe-agrees, turn-agrees, goal-room}
 use borrow.Author.Needs.{needs}
 use Rattle.goals.proofs.follows.claim_follows.Statement.{statement}
 use Rattle.goals.proofs.follows.claim_follows.Tie as tie
@@ -8,7 +8,7 @@ use Rattle.goals.proofs.follows.claim_follows.Tie as tie
 goal-follows-requires : tie.Need-goal-follows-requires
 goal-follows-requires c κs =
     let start = c .before .before .before in
-    (start .pre .0, small-goal (start .args .c) (c .before .c3 .given .0 .0) (c .before .c3 .given .1) (start .pre .1))
+    (start .pre .0, goal-room (start .args .c) (c .before .c3 .given .0 .0) (c .before .c3 .given .1) (start .pre .1))
 
 returns : tie.Need-returns
 returns c f laid =

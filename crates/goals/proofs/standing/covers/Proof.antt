@@ -5,6 +5,7 @@ use Prim.Native.Nat.{_+_, _*_}
 use lib.ListN.{getD}
 use borrow.Author.Tests.{eq-eqb, ne-eqb}
 use borrow.Author.Needs.{needs}
+use Rattle.facts.proofs.Sums.{sums-below}
 use Rattle.goals.proofs.standing.covers.Statement.{statement}
 use Rattle.goals.proofs.standing.covers.Tie as tie
 
@@ -16,12 +17,12 @@ returns c =
 add-bound-2 : tie.Need-add-bound-2
 add-bound-2 c =
     let start = c .before .before .before .before .before in
-    omega (arith, start .pre .0 .most (start .args .i * 6 + 5) (omega arith))
+    omega (arith, sums-below (start .args .plus) (getD (start .args .stripes .now) (start .args .i * 6 + 5) 0) (omega arith) (start .pre .0 .most (start .args .i * 6 + 5) (omega arith)))
 
 add-bound-4 : tie.Need-add-bound-4
 add-bound-4 c =
     let start = c .before .before .before .before .before .before in
-    omega (arith, start .pre .0 .most (start .args .i * 6 + 4) (omega arith))
+    omega (arith, sums-below (start .args .minus) (getD (start .args .stripes .now) (start .args .i * 6 + 4) 0) (omega arith) (start .pre .0 .most (start .args .i * 6 + 4) (omega arith)))
 
 returns-2 : tie.Need-returns-2
 returns-2 c =

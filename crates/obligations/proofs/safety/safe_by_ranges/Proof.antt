@@ -1,22 +1,21 @@
--- A scale of one byte times an end of 32 bits stays within 64 bits. Assumes nothing.
-use native.Mathlib.Nat.{mul-le-mul}
+-- The access with the high end of its variable ends far below what 64 bits hold. Assumes nothing.
 use native.Mathlib.Omega.{arith}
 use borrow.Author.Needs.{needs}
 use Rattle.facts.specs.Known.{rangesOf}
 use Rattle.facts.proofs.ArrayContents.{low-held, high-held}
 use Rattle.facts.proofs.PointArrays.{ends-even}
-use Rattle.obligations.proofs.AccessNumbers.{access-ranges}
+use Rattle.obligations.proofs.AccessNumbers.{access-end, access-ranges}
 use Rattle.obligations.proofs.safety.safe_by_ranges.Statement.{statement}
 use Rattle.obligations.proofs.safety.safe_by_ranges.Tie as tie
 
 mul-result : tie.Need-mul-result
-mul-result c = let start = c .before .before .before .before in omega (arith, mul-le-mul (start .pre .1 .scale) (start .pre .0 .highs .most (start .args .access .i) (start .pre .1 .variable)))
+mul-result c = let start = c .before .before .before .before in omega (arith, access-end (start .args .access) _ _ (c .before .before .size-variable .ensures .0) (c .bytes .ensures .0) (start .args .high .now) (start .pre .0 .highs) (start .pre .1))
 
 add-result : tie.Need-add-result
-add-result c = let start = c .before .before .before .before in omega (arith, mul-le-mul (start .pre .1 .scale) (start .pre .0 .highs .most (start .args .access .i) (start .pre .1 .variable)))
+add-result c = let start = c .before .before .before .before in omega (arith, access-end (start .args .access) _ _ (c .before .before .size-variable .ensures .0) (c .bytes .ensures .0) (start .args .high .now) (start .pre .0 .highs) (start .pre .1))
 
 add-result-2 : tie.Need-add-result-2
-add-result-2 c = let start = c .before .before .before .before in omega (arith, mul-le-mul (start .pre .1 .scale) (start .pre .0 .highs .most (start .args .access .i) (start .pre .1 .variable)))
+add-result-2 c = let start = c .before .before .before .before in omega (arith, access-end (start .args .access) _ _ (c .before .before .size-variable .ensures .0) (c .bytes .ensures .0) (start .args .high .now) (start .pre .0 .highs) (start .pre .1))
 
 returns : tie.Need-returns
 returns c =

@@ -18,7 +18,7 @@ loop-holds : tie.Need-loop-holds Inv-loop μ-loop
 loop-holds c = (omega arith, every-none (c .args .values .now) (c .args .stripes .now))
 
 stripe-holds-requires : tie.Need-stripe-holds-requires Inv-loop μ-loop
-stripe-holds-requires c κs = let h = c .before .before .pre .1 in let t = c .loop-test .taken in (c .before .before .pre .0, (h .parts, (omega (arith, h .few), h .bytes (c .before .loop .i) t)))
+stripe-holds-requires c κs = let h = c .before .before .pre .1 in let t = c .loop-test .taken in (c .before .before .pre .0, (h .parts, (omega (arith, h .few), h .narrow (c .before .loop .i) t)))
 
 loop-again : tie.Need-loop-again Inv-loop μ-loop
 loop-again c = (omega arith, rw (c .stripe-holds .ensures, c .before .before .loop .inv .1) (every-more (c .before .before .before .args .values .now) (c .before .before .before .args .stripes .now) (c .before .before .loop .i)))
