@@ -14,10 +14,12 @@ pub mod Reading
 pub mod ClaimPart
 pub mod Facts
 pub mod OneStep
+pub mod MoreStripes
 pub mod OwedPoints
 pub mod Steps
 pub mod Runs
 pub mod Safety
 pub mod EmptyPoints
+pub mod WiderLimits
 pub mod Queries
 pub mod Remainders

@@ -31,7 +31,7 @@ pub record Checked (l : List ℕ) : Type 0 where
   pub passes : Passes (pointsOf (listingOf l))
   accepted : listingJudged (listingOf l) ≡ Accepted
 
-verdict-accepted : (n k : ℕ) (j : Judgement) → verdictFrom n j ≡ Passed k → j ≡ Accepted
+pub verdict-accepted : (n k : ℕ) (j : Judgement) → verdictFrom n j ≡ Passed k → j ≡ Accepted
 verdict-accepted n k Accepted e = refl
 verdict-accepted n k (refused r) e = let z : _≡_ {A = ℕ} 0 1 = cc in absurd (omega arith)
 

@@ -20,3 +20,4 @@ pub mod Cases
 pub mod Safety
 pub mod EmptyPoints
 pub mod Bound
+pub mod LongRecords
