@@ -3,7 +3,7 @@
 -- Answers are stated in numbers: the points of a listing that passes, or a refusal's number, place and second place, 0 for none.
 -- The rows after C10 go beyond them: each number that C1 to C10 do not show, 2 to 11, 15 and 16, and 12 once more, most with a second fault
 -- that is tested later; three rows of the printer and the runner; the call for claim lines; the slips that document 01 names, each beside a
--- like listing that passes; and document 02's requests, T-01 to T-03, T-05 and T-06, with a row or more for each clause. C9 is the slip
+-- like listing that passes; and document 02's requests, T-01 to T-03 and T-05 to T-07, with a row or more for each clause. C9 is the slip
 -- of the address. A third variable in a link and a fourth link stand with the slips: no run goes wrong by them, so that soundness does
 -- not refuse them. 8 is shown on points that are read: 513 lines are too many to read by computation; so are the near misses of a
 -- covered edge and of an empty point, which takes less time. What no answer shows, an edge whose divisor can only be 0, is asked of the
@@ -14,8 +14,8 @@ use Prim.Native.String.{String}
 use mathlib.Core.Path.{_≡_, refl}
 use mathlib.Core.List.{List, [], _∷_, _++_, map}
 use lib.ListN.{length, replicate}
-use Rattle.model.specs.Types.{Field, Blank, Number, Negative, variable, number, Instruction, Stop, Copy, Subw, Jump, Bltu, Bequ, Divm, Divf, Next, Claim, Leas, Most, Strp, Turn, State, Refusal, Judgement, Accepted, refused, StepBound, Bounded, refusedBound, Verdict, Passed, refusedVerdict, Report, Stopped, Paused, refusedRun}
-use Rattle.model.specs.Limits.{today}
+use Rattle.model.specs.Types.{Field, Blank, Number, Negative, variable, number, Instruction, Stop, Copy, Addw, Subw, Mulw, Jump, Bltu, Bequ, Divm, Divf, Next, Stripe, Claim, Leas, Most, Strp, Turn, State, Refusal, Judgement, Accepted, refused, StepBound, Bounded, refusedBound, Verdict, Passed, refusedVerdict, Report, Stopped, Paused, refusedRun}
+use Rattle.model.specs.Limits.{blankVariable, StripeLimits, today, earlier}
 use Rattle.model.specs.Text.{space}
 use Rattle.model.specs.Words.{bytes}
 use Rattle.model.specs.Answers.{numberOf, placeOf, secondPlaceOf}
@@ -23,7 +23,7 @@ use Rattle.model.specs.Listing.{Point, wholeJudged, listingOf, claimLine
 use Rattle.model.specs.Writing.{roomFor, lineJudged, listingSet}
 use Rattle.model.specs.Machine.{lent}
 use Rattle.model.specs.Facts.{factsOf}
-use Rattle.model.specs.Transfer.{apart, factsAlong}
+use Rattle.model.specs.Transfer.{stripe, apart, factsAlong}
 use Rattle.model.specs.Follows.{lostAlong}
 use Rattle.model.specs.Check.{claimsJudged, pointsJudged, check, checkWithin}
 use Rattle.model.specs.Run.{Ran, run, runWithin}
@@ -555,6 +555,74 @@ leading l n =
     ∷ row "JUMP" "" "" "" "0" "" ""
     ∷ [])
 
+-- a stripe of this scale and bound at a STOP
+abbrev striped : String → String → List ℕ
+striped a b = rows (row "STRP" "17" a "0" "" "" b ∷ row "STOP" "" "" "" "" "" "" ∷ [])
+
+-- one byte of the last of 16 records of a bytes each, loaded from the trays
+abbrev loaded : String → List ℕ
+loaded a =
+    rows
+    (row "LEAS" "16" "" "" "" "" "65536"
+    ∷ row "MOST" "0" "" "" "" "" "15"
+    ∷ row "LOAD" "1" "1" "0" a "0" "0"
+    ∷ row "STOP" "" "" "" "" "" ""
+    ∷ [])
+
+-- the same stored in the results
+abbrev storedAt : String → List ℕ
+storedAt a =
+    rows
+    (row "LEAS" "17" "" "" "" "" "65536"
+    ∷ row "MOST" "0" "" "" "" "" "15"
+    ∷ row "STOR" "1" "1" "" a "0" "0"
+    ∷ row "STOP" "" "" "" "" "" ""
+    ∷ [])
+
+-- register 0, from 100 to 1,000, moved by an instruction on line 9 where stripes are claimed, with a claim of a stripe on line 10 after it
+abbrev moved : List Claim → Instruction → Stripe → List Point
+moved cs i t = on 9 (Leas 0 100 ∷ Most 0 1000 ∷ cs) i ∷ on 11 (Strp t ∷ []) Stop ∷ []
+
+-- the same with one stripe before it
+abbrev movedBetween : Stripe → Instruction → Stripe → List Point
+movedBetween s i t = moved (Strp s ∷ []) i t
+
+-- register 1, at most 1,000, multiplied into register 0 by c, with a claim of the stripe of that scale after it
+abbrev multiplied : ℕ → List Point
+multiplied c = on 2 (Most 1 1000 ∷ []) (Mulw 0 1 (number c)) ∷ on 4 (Strp (stripe 0 c 1 blankVariable 0 0) ∷ []) Stop ∷ []
+
+-- records of 300 bytes: the last two bytes of each, one after the other in the results
+abbrev records : List ℕ
+records =
+    rows
+    (row "STRP" "16" "300" "1" "" "" "0"
+    ∷ row "STRP" "17" "2" "1" "" "" "0"
+    ∷ row "SETC" "0" "" "" "" "" "0"
+    ∷ row "STRP" "16" "300" "1" "" "" "0"
+    ∷ row "STRP" "17" "2" "1" "" "" "0"
+    ∷ row "BLTU" "" "0" "" "3" "0" "1"
+    ∷ row "STOP" "" "" "" "" "" ""
+    ∷ row "STRP" "16" "300" "1" "" "" "0"
+    ∷ row "STRP" "17" "2" "1" "" "" "0"
+    ∷ row "STRP" "16" "300" "0" "" "" "300"
+    ∷ row "STRP" "17" "2" "0" "" "" "2"
+    ∷ row "LOAD" "2" "2" "0" "300" "0" "298"
+    ∷ row "STRP" "16" "300" "1" "" "" "0"
+    ∷ row "STRP" "17" "2" "1" "" "" "0"
+    ∷ row "STRP" "17" "2" "0" "" "" "2"
+    ∷ row "STOR" "2" "2" "" "2" "0" "0"
+    ∷ row "STRP" "16" "300" "1" "" "" "0"
+    ∷ row "STRP" "17" "2" "1" "" "" "0"
+    ∷ row "ADDW" "0" "0" "" "" "1" "1"
+    ∷ row "STRP" "16" "300" "1" "" "" "0"
+    ∷ row "STRP" "17" "2" "1" "" "" "0"
+    ∷ row "JUMP" "" "" "" "1" "" ""
+    ∷ [])
+
+-- two records, which end in 7 and 1 and in 9 and 0
+abbrev twoRecords : List ℕ
+twoRecords = replicate 298 0 ++ (7 ∷ 1 ∷ []) ++ replicate 298 0 ++ (9 ∷ 0 ∷ [])
+
 -- a state at a point whose first registers hold these numbers and the others 0
 abbrev holding : ℕ → List ℕ → State
 holding p l = record { point = p; registers = l ++ replicate (16 - length l) 0 }
@@ -617,6 +685,10 @@ record Case : Type 0 where
 abbrev checked : List ℕ → Answer → Case
 checked l a = record { given = answer (ofVerdict (check l)); stated = answer a }
 
+-- the same within the earlier limits
+abbrev checkedEarlier : List ℕ → Answer → Case
+checkedEarlier l a = record { given = answer (ofVerdict (checkWithin earlier l)); stated = answer a }
+
 -- the answer of the call for a bound
 abbrev needs : List ℕ → Answer → Case
 needs l a = record { given = answer (ofBound (stepBound l)); stated = answer a }
@@ -630,9 +702,13 @@ abbrev divisorOwes : ℕ → Instruction → Answer → Case
 divisorOwes m i a =
     record { given = answer (ofJudgement (claimsJudged 4 (factsAlong today Next i (factsOf (some ++ (Most 1 m ∷ [])))) (on 6 (Leas 1 9 ∷ []) Stop))); stated = answer a }
 
--- 12 to 14 over points that are read
+-- 12 to 14 over points that are read, within some limits
+abbrev pointsOweWithin : StripeLimits → List Point → Answer → Case
+pointsOweWithin L ps a = record { given = answer (ofJudgement (pointsJudged L ps (length ps))); stated = answer a }
+
+-- the same within today's
 abbrev pointsOwe : List Point → Answer → Case
-pointsOwe ps a = record { given = answer (ofJudgement (pointsJudged today ps (length ps))); stated = answer a }
+pointsOwe ps a = pointsOweWithin today ps a
 
 -- the tests 7 to 11 over so many lines that were read as these points
 abbrev wholeTested : ℕ → List Point → Answer → Case
@@ -753,7 +829,7 @@ table =
     ∷ checked (looping "5") (refusedBy 14 5 2)
     -- T-01, lines that are set: between others, with a minus, at the end of a listing that has bytes more
     ∷ sets "LEAS" (six (Number 16) Blank Blank Blank Blank (Number 4)) 2 (replicate 120 0) accepts (replicate 40 0 ++ row "LEAS" "16" "" "" "" "" "4" ++ replicate 40 0)
-    ∷ sets "STRP" (six (Number 17) (Number 255) (Number 0) Blank Blank (Negative 4398046511104)) 1 (replicate 40 0) accepts (row "STRP" "17" "255" "0" "" "" "-4398046511104")
+    ∷ sets "STRP" (six (Number 17) (Number 4095) (Number 0) Blank Blank (Negative 70368744177664)) 1 (replicate 40 0) accepts (row "STRP" "17" "4095" "0" "" "" "-70368744177664")
     ∷ sets "STOP" (six Blank Blank Blank Blank Blank Blank) 2 (replicate 81 0) accepts (replicate 40 0 ++ row "STOP" "" "" "" "" "" "" ++ (0 ∷ []))
     -- no word, also of three and of five bytes; the place is the line as it was given
     ∷ setsNothing "HALT" (six (Negative 0) Blank Blank Blank Blank Blank) 7 40 (refusedBy 3 7 0)
@@ -929,6 +1005,45 @@ table =
     ∷ prints c10 "PASS                                  3\n"
     ∷ runs c10 (standing 0 1 2 3) [] [] 5 (afterRun stops 1 (standing 2 1 2 3) [] [])
     ∷ runs c10 (standing 1 1 2 3) [] [] 5 (afterRun (refusedBy 17 0 0) 0 (standing 1 1 2 3) [] [])
+    -- T-07, limits: scales and bounds at their ends and one past them, within today's limits and the earlier ones
+    ∷ checked (striped "4095" "70368744177664") (passes 1)
+    ∷ checked (striped "1" "-70368744177664") (passes 1)
+    ∷ checked (striped "4096" "0") (refusedBy 5 1 0)
+    ∷ checked (striped "1" "70368744177665") (refusedBy 5 1 0)
+    ∷ checked (striped "1" "-70368744177665") (refusedBy 5 1 0)
+    ∷ checkedEarlier (striped "255" "4398046511104") (passes 1)
+    ∷ checkedEarlier (striped "256" "0") (refusedBy 5 1 0)
+    ∷ checkedEarlier (striped "1" "-4398046511105") (refusedBy 5 1 0)
+    ∷ checked (loaded "4095") (passes 2)
+    ∷ checked (loaded "4096") (refusedBy 5 3 0)
+    ∷ checked (storedAt "4095") (passes 2)
+    ∷ checked (storedAt "4096") (refusedBy 5 3 0)
+    ∷ setsNothing "STOR" (six (Number 0) (Number 4) Blank (Number 4096) (Number 1) (Number 0)) 1 40 (refusedBy 5 1 0)
+    -- a shift that the earlier limits drop: a claim follows from it today
+    ∷ pointsOwe (movedBetween (apart 0 1 4398046511104 0) (Addw 0 0 (number 1)) (apart 0 1 4398046511105 0)) accepts
+    ∷ pointsOweWithin earlier (movedBetween (apart 0 1 4398046511104 0) (Addw 0 0 (number 1)) (apart 0 1 4398046511105 0)) (refusedBy 14 9 10)
+    ∷ pointsOweWithin earlier (movedBetween (apart 0 1 4398046511103 0) (Addw 0 0 (number 1)) (apart 0 1 4398046511104 0)) accepts
+    -- a shift to the upper end of the bounds is kept, and one past it is dropped: by x, and by y and z
+    ∷ pointsOwe (movedBetween (apart 0 1 70368744177663 0) (Addw 0 0 (number 1)) (apart 0 1 70368744177664 0)) accepts
+    ∷ pointsOwe (movedBetween (apart 0 1 70368744177664 0) (Addw 0 0 (number 1)) (apart 0 1 70368744177664 0)) (refusedBy 14 9 10)
+    ∷ pointsOwe (movedBetween (stripe 1 4095 0 0 70368744169474 0) (Subw 0 0 (number 1)) (stripe 1 4095 0 0 70368744177664 0)) accepts
+    ∷ pointsOwe (movedBetween (stripe 1 4095 0 0 70368744169475 0) (Subw 0 0 (number 1)) (stripe 1 4095 0 0 70368744177664 0)) (refusedBy 14 9 10)
+    -- to the lower end too: a link to a stripe of the greatest bound shows it, moved by y and by x
+    ∷ pointsOwe (moved (Strp (apart 2 1 70368744177664 0) ∷ Strp (apart 1 0 0 70368744177663) ∷ []) (Addw 0 0 (number 1)) (apart 2 0 0 0)) accepts
+    ∷ pointsOwe (moved (Strp (apart 2 1 70368744177664 0) ∷ Strp (apart 1 0 0 70368744177664) ∷ []) (Addw 0 0 (number 1)) (apart 2 0 0 1)) (refusedBy 14 9 10)
+    ∷ pointsOwe (moved (Strp (apart 2 0 70368744177663 0) ∷ Strp (apart 0 1 0 70368744177663) ∷ []) (Subw 0 0 (number 1)) (apart 2 1 0 0)) accepts
+    ∷ pointsOwe (moved (Strp (apart 2 0 70368744177663 0) ∷ Strp (apart 0 1 0 70368744177664) ∷ []) (Subw 0 0 (number 1)) (apart 2 1 0 1)) (refusedBy 14 9 10)
+    -- MULW adds its stripe for every number that can be a scale
+    ∷ pointsOwe (multiplied 255) accepts
+    ∷ pointsOwe (multiplied 256) accepts
+    ∷ pointsOwe (multiplied 4095) accepts
+    ∷ pointsOwe (multiplied 4096) (refusedBy 14 2 3)
+    ∷ pointsOweWithin earlier (multiplied 255) accepts
+    ∷ pointsOweWithin earlier (multiplied 256) (refusedBy 14 2 3)
+    -- records of 300 bytes, walked
+    ∷ checked records (passes 7)
+    ∷ checkedEarlier records (refusedBy 5 1 0)
+    ∷ runs records (standing 0 0 2 0) twoRecords (replicate 4 255) 12 (afterRun stops 12 (standing 2 2 2 9) twoRecords (7 ∷ 1 ∷ 9 ∷ 0 ∷ []))
     ∷ []
 
 -- what the definitions give in a case

@@ -1,12 +1,15 @@
 //! Compares the proved checker, the bounds of steps and the claim lines of points with the reference on families of
 //! listings, the proved setter on families of calls, and the program with the examples. Routines keep to their bounds.
-//! What is set is read, and what is read is set again.
-//! Counted are: each family, each of the two laws, each example, and that no answer is rare.
+//! What is set is read, and what is read is set again. What passed within the earlier limits of scales and bounds
+//! passes.
+//! Counted are: each family, each of the two laws, the earlier limits, each example, and that no answer is rare.
 
 mod bounds;
+mod earlier_limits;
 mod set_lines;
 
 use bounds::compare_step_bounds;
+use earlier_limits::try_earlier_limits;
 use reference::Answer;
 use set_lines::{compare_set_lines, try_laws};
 use std::fs;
@@ -22,11 +25,13 @@ fn main() -> ExitCode {
     compare_claim_lines(&mut count);
     compare_set_lines(&mut count);
     try_laws(&mut count);
+    try_earlier_limits(&mut count);
     try_examples(&mut count);
     println!(
         "counted: each family of listings for the checker, for bounds and for claim lines, each family of calls that"
     );
-    println!("set a line, for each of the four once that no answer is rare, each of the two laws, and each example");
+    println!("set a line, for each of the four once that no answer is rare, each of the two laws, the earlier limits,");
+    println!("and each example");
     count.finish()
 }
 

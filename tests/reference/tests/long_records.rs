@@ -1,5 +1,5 @@
-//! Records of up to 4,095 bytes: scales and bounds at and beside their ends, written and shifted, products, addresses and
-//! runs. Each case is asked within the limits of today and within the earlier ones.
+//! Records of up to 4,095 bytes: scales and bounds at and beside their ends, written and shifted, products, addresses
+//! and runs. Each case is asked within the limits of today and within the earlier ones.
 
 use lines::listing;
 use reference::{
@@ -134,8 +134,8 @@ fn a_bound_shifted_past_the_earlier_end_is_kept() {
     }
 }
 
-/// Register 2 is at least `top` above register 0, and 0 at least b above 1. After the step a goal is asked that the second
-/// stripe shows as a link: no ranges show it.
+/// Register 2 is at least `top` above register 0, and 0 at least b above 1. After the step a goal is asked that the
+/// second stripe shows as a link: no ranges show it.
 fn lowered(step: &str, top: i128, b: i128, goal: i128) -> String {
     format!(
         "LEAS 0 _ _ _ _ 7; MOST 0 _ _ _ _ 900; MOST 1 _ _ _ _ 900; STRP 2 1 0 _ _ {top}; STRP 0 1 1 _ _ {b}; {step};
@@ -254,8 +254,8 @@ fn an_address_of_a_long_record_never_wraps() {
     expect_today(greatest, fail(13, 2));
 }
 
-/// A loop over records of some length: two bytes at the end of each record of the trays go to the start of the result with
-/// the same number.
+/// A loop over records of some length: two bytes at the end of each record of the trays go to the start of the result
+/// with the same number.
 fn walk(length: i128) -> Vec<u8> {
     let whole = format!("STRP 16 {length} 1 _ _ 0; STRP 17 {length} 1 _ _ 0;");
     let here = format!("STRP 16 {length} 0 _ _ {length}; STRP 17 {length} 0 _ _ {length};");

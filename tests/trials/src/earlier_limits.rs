@@ -11,7 +11,8 @@ pub fn of_earlier(listing: &[u8]) -> Verdict {
     Verdict { answer, line: printed(&answer) }
 }
 
-/// How many listings of the family pass within the earlier limits, or the first of them that the checker answers otherwise.
+/// How many listings of the family pass within the earlier limits, or the first of them that the checker answers
+/// otherwise.
 pub fn pass_still(family: &Family, checker: Checker) -> Result<u64, Box<Difference>> {
     let passed = |listing: &[u8]| Some(of_earlier(listing)).filter(|verdict| verdict.answer.number == 0);
     let differs = |listing: &[u8]| passed(listing).is_some_and(|verdict| verdict != checker(listing));

@@ -3,7 +3,8 @@
 use lines::LINE;
 use reference::refusals::{BAD_ORDER, CLAIM_DOES_NOT_FOLLOW, OUT_OF_LIMITS, WAY_BACK_NOT_COVERED};
 use reference::{
-    check, edges, read, read_line, Answer, Arithmetic, Instruction, Known, Line, Listing, Operand, Point, MAX,
+    check, edges, read, read_line, step_bound_within, Answer, Arithmetic, Instruction, Known, Limits, Line, Listing,
+    Operand, Point, Refusal, MAX,
 };
 use trials::bounds::{bound_families, bound_of_reference, compare_bounds, Bound, BoundDifference};
 
@@ -134,6 +135,7 @@ const BLOCKS: &str = "random blocks";
 const EMPTY: &str = "at empty points";
 const ANY_LINE: &str = "TURN on any line";
 const FIELDS: &str = "fields of TURN";
+const LONG_RECORDS: &str = "with long records";
 
 /// What is planted below differs from the reference in one thing alone.
 #[test]
@@ -254,6 +256,29 @@ fn ways_back_from_empty_points_that_are_refused_are_found() {
     let rule = Rule { fit, ..RIGHT };
     let difference = found(EMPTY, &|listing| bound_by(listing, &rule));
     assert_eq!((difference.left.number, difference.right.number), REFUSED);
+}
+
+/// A bound with other limits of scales and of the bounds of stripes.
+fn within(limits: Limits, listing: &[u8]) -> Bound {
+    match step_bound_within(limits, listing) {
+        Ok(bound) => Bound { number: 0, place: 0, second: 0, bound },
+        Err(Refusal { number, place, second }) => Bound { number, place, second, bound: 0 },
+    }
+}
+
+#[test]
+fn other_limits_of_scales_and_stripes_are_found() {
+    let Limits { scale, bound } = Limits::TODAY;
+    for limits in [
+        Limits { scale: 255, bound },
+        Limits { scale, bound: Limits::EARLIER.bound },
+        Limits { scale, bound: bound - 1 },
+    ] {
+        let difference = found(LONG_RECORDS, &|listing| within(limits, listing));
+        assert_eq!((difference.right.number, difference.listing.len()), (OUT_OF_LIMITS, LINE));
+    }
+    let difference = found("bounds shifted", &|listing| within(Limits { scale, bound: bound + 1 }, listing));
+    assert_eq!((difference.left.number, difference.right.number), (CLAIM_DOES_NOT_FOLLOW, 0));
 }
 
 /// The points that the text leads to.

@@ -4,8 +4,8 @@ mod mended;
 
 use lines::LINE;
 use mended::mended;
-use reference::refusals::ONE_REGISTER_TWICE;
-use reference::{read, Listing};
+use reference::refusals::{ONE_REGISTER_TWICE, OUT_OF_LIMITS};
+use reference::{claim_span_within, read, Limits, Listing};
 use trials::claim_lines::{compare_parts, listings, part_of_reference, Part, PartDifference};
 use trials::shrink::is_claim;
 
@@ -75,6 +75,33 @@ fn one_register_twice_is_found() {
     let difference = found("one register for quotient and remainder", &one_register_twice);
     assert_eq!(difference.left.number, ONE_REGISTER_TWICE);
     assert!(difference.listing.len() <= 2 * LINE, "{difference}");
+}
+
+/// A wrong reader with other limits of scales and bounds.
+fn within(limits: Limits, listing: &[u8], point: u64) -> Part {
+    match claim_span_within(limits, listing, point) {
+        Ok(span) => Part { number: 0, place: 0, offset: span.start as u64, length: span.len() as u64 },
+        Err(refusal) => Part { number: refusal.number, place: refusal.place, offset: 0, length: 0 },
+    }
+}
+
+#[test]
+fn other_limits_of_scales_and_bounds_are_found() {
+    let Limits { scale, bound } = Limits::TODAY;
+    for (part, limits, wider) in [
+        ("stripes of any scale", Limits { scale: 255, bound }, false),
+        ("stripes of any scale", Limits { scale: scale + 1, bound }, true),
+        ("accesses of any scale", Limits { scale: 255, bound }, false),
+        ("accesses of any scale", Limits { scale: scale + 1, bound }, true),
+        ("bounds written", Limits { scale, bound: Limits::EARLIER.bound }, false),
+        ("bounds written", Limits { scale, bound: bound + 1 }, true),
+        ("bounds shifted", Limits { scale, bound: bound - 1 }, false),
+    ] {
+        let difference = found(part, &|listing, point| within(limits, listing, point));
+        let turned_back = if wider { difference.left } else { difference.right };
+        assert_eq!(turned_back.number, OUT_OF_LIMITS, "{difference}");
+        assert!(difference.listing.len() <= 2 * LINE, "{difference}");
+    }
 }
 
 #[test]

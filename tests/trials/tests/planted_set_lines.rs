@@ -2,6 +2,7 @@
 
 use lines::{FIELDS, LINE};
 use reference::refusals::{BAD_ORDER, BAD_SHAPE, NO_SUCH_LINE, ONE_REGISTER_TWICE, OUT_OF_LIMITS, UNKNOWN_WORD};
+use reference::{set_line_within, Limits, Refusal};
 use trials::set_lines::{
     compare_setters, lines_come_back, set_by_reference, set_families, set_lines_are_read, SetAfter, SetCall,
     SetDifference, BLANK, NEGATIVE, NUMBER,
@@ -220,6 +221,58 @@ fn no_turn(call: &SetCall) -> SetAfter {
             call.word = b"turn".to_vec();
         }
     })
+}
+
+/// A setter with other limits of scales and bounds.
+fn within(limits: Limits, call: &SetCall) -> SetAfter {
+    let mut listing = call.listing.clone();
+    match set_line_within(limits, &call.word, &call.fields(), call.line, &mut listing) {
+        Ok(()) => SetAfter { number: 0, place: 0, listing },
+        Err(Refusal { number, place, .. }) => SetAfter { number, place, listing },
+    }
+}
+
+/// Other limits for the calls of which this holds.
+fn within_for(limits: Limits, which: fn(&SetCall) -> bool, call: &SetCall) -> SetAfter {
+    within(if which(call) { limits } else { Limits::TODAY }, call)
+}
+
+#[test]
+fn other_limits_of_scales_are_found() {
+    let words: [fn(&SetCall) -> bool; 3] =
+        [|call| call.word == b"STRP", |call| call.word == b"LOAD", |call| call.word == b"STOR"];
+    for which in words {
+        for scale in [4_096, 4_094, 255] {
+            let wrong = |call: &SetCall| within_for(Limits { scale, ..Limits::TODAY }, which, call);
+            let (left, right) = numbers_of(&found(&wrong));
+            assert_eq!(if scale == 4_096 { left } else { right }, OUT_OF_LIMITS, "{scale}");
+        }
+    }
+}
+
+#[test]
+fn other_limits_of_bounds_are_found() {
+    let signs: [fn(&SetCall) -> bool; 2] = [|call| call.kinds[5] == NEGATIVE, |call| call.kinds[5] == NUMBER];
+    let end = Limits::TODAY.bound;
+    for which in signs {
+        for bound in [end + 1, end - 1, Limits::EARLIER.bound] {
+            let wrong = |call: &SetCall| within_for(Limits { bound, ..Limits::TODAY }, which, call);
+            let (left, right) = numbers_of(&found(&wrong));
+            assert_eq!(if bound > end { left } else { right }, OUT_OF_LIMITS, "{bound}");
+        }
+    }
+}
+
+/// 5 for what fills all columns of F6 with its minus.
+#[test]
+fn a_bound_taken_to_be_too_wide_is_found() {
+    let wrong = |call: &SetCall| match set_by_reference(call) {
+        after if after.number == 0 && call.kinds[5] == NEGATIVE && call.numbers[5] >= 10_000_000_000_000 => {
+            SetAfter { number: OUT_OF_LIMITS, place: call.line, listing: call.listing.clone() }
+        }
+        after => after,
+    };
+    assert_eq!(found(&wrong).right.number, OUT_OF_LIMITS);
 }
 
 #[test]

@@ -229,14 +229,20 @@ fn hindrances(
     claims
 }
 
-/// A few random points of which some are empty.
+/// A few random points of which some are empty; some of these would owe something.
 pub fn among_points(random: &mut Random) -> Vec<Vec<u8>> {
     let text = probes::jumble(random).swap_remove(0);
     let Ok(listing) = read(&text) else { return vec![text] };
     let mut draft = draft_of(&listing);
-    for point in draft.points.iter_mut().skip(1) {
+    let last = draft.points.len() - 1;
+    for (at, point) in draft.points.iter_mut().enumerate().skip(1) {
         match random.below(10) {
-            0..=4 => make_empty(random, point),
+            0..=4 => {
+                make_empty(random, point);
+                if at < last && random.percent(25) {
+                    point.instruction = owing(random, at);
+                }
+            }
             5 => make_nearly_empty(random, point),
             _ => {}
         }

@@ -1,5 +1,5 @@
-//! Stripe bounds at and beside the ends of their limits, those of today and the earlier ones: written, shifted by a step,
-//! and in goals that links carry far beyond them.
+//! Stripe bounds at and beside the ends of their limits, those of today and the earlier ones: written, shifted by a
+//! step, and in goals that links carry far beyond them.
 
 use super::long_records::scale;
 use super::{pieces, probes};
@@ -115,8 +115,8 @@ fn raised(random: &mut Random, shift: &Shift, point: &mut DraftPoint) -> Option<
     Some(Stripe { b: beside.clamp(-end, end), ..stripe })
 }
 
-/// Ranges show whatever a bound near the least does, so that such a bound counts as a link alone: it carries a goal to a
-/// stripe with a bound near the greatest.
+/// Ranges show whatever a bound near the least does, so that such a bound counts as a link alone: it carries a goal to
+/// a stripe with a bound near the greatest.
 fn lowered(random: &mut Random, shift: &Shift, point: &mut DraftPoint) -> Option<Stripe> {
     let end = pieces::limits(random).bound;
     let difference = |x, y, b| Stripe { x, a: 1, y, z: None, b };
@@ -135,7 +135,7 @@ fn lowered(random: &mut Random, shift: &Shift, point: &mut DraftPoint) -> Option
 
 /// A goal of any scale at the far end of one to four links with bounds near an end, in y, in z or in both.
 pub fn far_goals(random: &mut Random) -> Vec<Vec<u8>> {
-    let (a, length) = (scale(random).max(1), 1 + random.below(4));
+    let (a, length) = (scale(random), 1 + random.below(4));
     let (size, last) = (random.pick(&[TRAYS_SIZE, RESULTS_SIZE]), length);
     let moves = far_moves(random, length);
     let link = |x, y, b| Stripe { x, a: 1, y, z: None, b };

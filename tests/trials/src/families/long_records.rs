@@ -117,8 +117,8 @@ fn claim_ranges(point: &mut DraftPoint, i: usize, hi: Whole, size: usize, least:
     }
 }
 
-/// An access with an index up to the greatest, so that its address is near 2 to the power 44, or is within the table where
-/// high bits are lost.
+/// An access with an index up to the greatest, so that its address is near 2 to the power 44, or is within the table
+/// where high bits are lost.
 pub fn addresses(random: &mut Random) -> Vec<Vec<u8>> {
     let (a, width, table) = (scale(random), pieces::width(random), random.below(2));
     let (size, i) = (TRAYS_SIZE + table, random.pick(&[1, 2, 2, 16, 17]));
@@ -152,7 +152,8 @@ pub fn nudged(random: &mut Random) -> Vec<Vec<u8>> {
     (0..CHANGES).map(|_| nudges::nudge(random, &text)).collect()
 }
 
-/// A loop that counts down, with a stripe of any scale or a far bound claimed at every point, and with one number nudged.
+/// A loop that counts down, with a stripe of any scale or a far bound claimed at every point, and the same with one
+/// number nudged.
 pub fn in_loops(random: &mut Random) -> Vec<Vec<u8>> {
     let most = random.between(0, 6);
     let mut count = count(random, most, 1);

@@ -55,7 +55,7 @@ pub fn of_columns() -> Vec<Family> {
     ]
 }
 
-/// Every family of the comparison; together more than 450,000 listings.
+/// Every family of the comparison; together more than 550,000 listings.
 pub fn all() -> Vec<Family> {
     without_turn().into_iter().chain(under_turn()).collect()
 }

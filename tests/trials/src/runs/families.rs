@@ -68,7 +68,7 @@ pub fn all_runs() -> Vec<RunFamily> {
         family("routines with dead stretches, from any point", 119, 3_000, dead_stretches::from_any_point),
         family("a state at an empty point", 120, 6_000, dead_stretches::at_empty_points),
         family("points that are nearly empty, from any point", 121, 6_000, dead_stretches::nearly_empty),
-        family("long records walked by a loop", 122, 1_200, long_records::walked),
+        family("long records walked by a loop", 122, 1_500, long_records::walked),
         family("one access of a long record", 123, 5_000, long_records::accessed),
         family("stripes of any scale, met and missed by one", 124, 6_000, long_records::met_and_missed),
         family("routines over long records, from any point", 125, 1_000, long_records::routines),

@@ -1,5 +1,5 @@
-//! Runs over long records: walked by a loop through whole tables, accessed one by one at any index, and states that meet or
-//! just miss stripes of any scale.
+//! Runs over long records: walked by a loop through whole tables, accessed one by one at any index, and states that meet
+//! or just miss stripes of any scale.
 
 use super::call::Call;
 use super::families::{from_any_point, from_any_state, from_several_points, trial, Trial};
@@ -23,7 +23,7 @@ fn length(random: &mut Random) -> Whole {
 pub fn walked(random: &mut Random) -> Vec<Trial> {
     let (width, table) = (pieces::width(random), random.below(2));
     let (from, to) = (length(random), length(random));
-    let [read_at, write_at] = [from, to].map(|length| random.pick(&[0, 1, length - width, length / 2]));
+    let [read_at, write_at] = [from, to].map(|length| random.pick(&[0, length - width, length - width, length / 2]));
     let size = TRAYS_SIZE + table;
     let whole = format!("STRP {size} {from} 1 _ _ 0; STRP 17 {to} 1 _ _ 0;");
     let here = format!("STRP {size} {from} 0 _ _ {from}; STRP 17 {to} 0 _ _ {to};");
@@ -32,18 +32,18 @@ pub fn walked(random: &mut Random) -> Vec<Trial> {
          {whole} {here} LOAD 2 {width} {table} {from} 0 {read_at}; {whole} {here} ADDW 3 3 _ _ 0 2;
          {whole} {here} STOR 3 {width} _ {to} 0 {write_at}; {whole} ADDW 0 0 _ _ 1 1; {whole} JUMP _ _ _ 1"
     ));
-    let longest = from.max(to);
-    let most = SIZE_LIMIT / longest;
-    let records = random.pick(&[most, most.min(5), 1, 0]);
-    // as many bytes as the records need, a byte less, or as many as may be
-    let sizes = [0, 1].map(|_| {
-        let needed = records * longest;
-        random.pick(&[needed, needed, needed, SIZE_LIMIT, (needed - 1).max(0)]) as usize
+    let most = SIZE_LIMIT / from.max(to);
+    let records = random.pick(&[most, most, most.min(5), 2, 1, 0]);
+    // as many bytes as the records need, as many as may be, or a byte less
+    let needed = if table == 0 { [from, to] } else { [0, from.max(to)] };
+    let sizes = needed.map(|length| {
+        let bytes = records * length;
+        random.pick(&[bytes, bytes, bytes, bytes, SIZE_LIMIT, (bytes - 1).max(0)]) as usize
     });
     let mut state = State { point: 0, registers: std::array::from_fn(|_| random.draw() as u32) };
     state.registers[1] = records as u32;
     let (trays, results) = (bytes(random, sizes[0]), bytes(random, sizes[1]));
-    let budget = if random.percent(10) { u32::MAX } else { random.below(120) as u32 };
+    let budget = if random.percent(50) { u32::MAX } else { random.below(120) as u32 };
     vec![Trial { call: Call { listing: text, state, trays, results, budget }, runs: 2 }]
 }
 
@@ -100,8 +100,8 @@ pub fn routines(random: &mut Random) -> Vec<Trial> {
     from_several_points(random, &text)
 }
 
-/// A small listing with scales and bounds near their limits: one that passes, from a state that meets its claims, if one is
-/// found; one that is turned back, from any state.
+/// A small listing with scales and bounds near their limits: one that passes, from a state that meets its claims, if one
+/// is found; one that is turned back, from any state.
 pub fn small_listings(random: &mut Random) -> Vec<Trial> {
     let makers = [
         long_records::stripes,

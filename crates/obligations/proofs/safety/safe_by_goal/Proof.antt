@@ -9,7 +9,7 @@ use Rattle.obligations.proofs.safety.safe_by_goal.Statement.{statement}
 use Rattle.obligations.proofs.safety.safe_by_goal.Tie as tie
 
 goal-follows-requires : tie.Need-goal-follows-requires
-goal-follows-requires c κs = (point-sized _ _ _ _ (c .before .before .pre .0), record { scale = c .before .before .pre .1 .scale; plus = omega arith; minus = omega arith })
+goal-follows-requires c κs = (point-sized _ _ _ _ (c .before .before .pre .0), record { scale = omega arith; plus = omega arith; minus = omega arith })
 
 returns : tie.Need-returns
 returns c =
