@@ -1,6 +1,6 @@
 //! Ranges and stripes at a point and along its edges. Ends are signed, so that an end below 0 stays below 0.
 
-use crate::line::{Claim, Operand, BLANK, BOUND_LIMIT, MAX, RESULTS_SIZE, SIZE_LIMIT, TRAYS_SIZE};
+use crate::line::{Claim, Operand, BLANK, BOUND_LIMIT, GREATEST_SCALE, MAX, RESULTS_SIZE, SIZE_LIMIT, TRAYS_SIZE};
 use crate::quotient::nearest;
 
 pub const VARIABLES: usize = 18;
@@ -11,7 +11,7 @@ const ADDED: usize = 2;
 #[derive(Clone, Copy)]
 pub struct Stripe {
     pub x: u8,
-    pub a: u8,
+    pub a: u16,
     pub y: u8,
     pub z: u8,
     pub b: i64,
@@ -197,9 +197,9 @@ impl Facts {
             return self.write_any(d);
         }
         self.write(d, lo * lo_o, most as i64);
-        if let Operand::Number(scale @ 1..=255) = o {
-            if d != i {
-                self.add_stripe(Stripe { x: d, a: scale as u8, y: i, z: BLANK, b: 0 });
+        if let Operand::Number(scale) = o {
+            if (1..=GREATEST_SCALE).contains(&u64::from(scale)) && d != i {
+                self.add_stripe(Stripe { x: d, a: scale as u16, y: i, z: BLANK, b: 0 });
             }
         }
     }

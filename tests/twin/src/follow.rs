@@ -46,7 +46,7 @@ struct Search<'a> {
     stripes: &'a [Stripe],
     links: &'a [Link],
     x: u8,
-    a: u8,
+    a: u16,
     lo: i64,
 }
 

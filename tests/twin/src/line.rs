@@ -7,7 +7,8 @@ use reference::refusals::{BAD_BYTE, BAD_ORDER, BAD_SHAPE, ONE_REGISTER_TWICE, OU
 pub const LINE: usize = 40;
 pub const MAX: u64 = u32::MAX as u64;
 pub const SIZE_LIMIT: u64 = 65_536;
-pub const BOUND_LIMIT: u64 = 4_398_046_511_104;
+pub const BOUND_LIMIT: u64 = 70_368_744_177_664;
+pub const GREATEST_SCALE: u64 = 4_095;
 pub const TRAYS_SIZE: u8 = 16;
 pub const RESULTS_SIZE: u8 = 17;
 /// Stands for a blank z.
@@ -31,8 +32,8 @@ pub enum Instruction {
     Subtract { d: u8, i: u8, o: Operand },
     Multiply { d: u8, i: u8, o: Operand },
     Divide { d: u8, i: u8, o: Operand },
-    Load { d: u8, width: u8, size: u8, scale: u8, i: u8, offset: u16 },
-    Store { stored: u8, width: u8, scale: u8, i: u8, offset: u16 },
+    Load { d: u8, width: u8, size: u8, scale: u16, i: u8, offset: u16 },
+    Store { stored: u8, width: u8, scale: u16, i: u8, offset: u16 },
     Jump { target: u16 },
     Less { i: u8, target: u16, o: Operand },
     Equal { i: u8, target: u16, o: Operand },
@@ -44,7 +45,7 @@ pub enum Instruction {
 pub enum Claim {
     Least { v: u8, value: i64 },
     Most { v: u8, value: i64 },
-    Stripe { x: u8, a: u8, y: u8, z: u8, b: i64 },
+    Stripe { x: u8, a: u16, y: u8, z: u8, b: i64 },
 }
 
 const _: () = assert!(size_of::<Claim>() == 16);
@@ -283,8 +284,8 @@ fn offset(number: u64) -> Taken<u16> {
 }
 
 #[inline]
-fn scale(number: u64) -> Taken<u8> {
-    taken((1..=255).contains(&number), number as u8)
+fn scale(number: u64) -> Taken<u16> {
+    taken((1..=GREATEST_SCALE).contains(&number), number as u16)
 }
 
 #[inline]

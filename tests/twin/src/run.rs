@@ -103,7 +103,7 @@ fn step(instruction: &Instruction, at: usize, values: &mut Values, trays: &[u8],
         Operand::Variable(v) => value(v),
         Operand::Number(number) => number,
     };
-    let address = |scale: u8, i: u8, offset: u16| scale as usize * value(i) as usize + offset as usize;
+    let address = |scale: u16, i: u8, offset: u16| scale as usize * value(i) as usize + offset as usize;
     let (d, written) = match *instruction {
         Instruction::Stop => return None,
         Instruction::Set { d, number } => (d, number),

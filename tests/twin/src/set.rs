@@ -79,7 +79,7 @@ fn write(line: &mut [u8; LINE], word: [u8; 4], fields: &Fields) {
     }
 }
 
-/// A number within the limits of F1 to F5 has at most three digits.
+/// A number within the limits of F1 to F5.
 #[inline]
 fn write_short(columns: &mut [u8; 4], number: u16) {
     columns[3] = b'0' + (number % 10) as u8;
@@ -87,7 +87,10 @@ fn write_short(columns: &mut [u8; 4], number: u16) {
         columns[2] = b'0' + (number / 10 % 10) as u8;
     }
     if number >= 100 {
-        columns[1] = b'0' + (number / 100) as u8;
+        columns[1] = b'0' + (number / 100 % 10) as u8;
+    }
+    if number >= 1000 {
+        columns[0] = b'0' + (number / 1000) as u8;
     }
 }
 

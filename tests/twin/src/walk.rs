@@ -103,7 +103,7 @@ fn divisor_is_safe(facts: &Facts, o: Operand) -> bool {
 }
 
 /// scale × i + end ≤ size.
-fn access_is_safe(facts: &Facts, size: u8, scale: u8, i: u8, end: i64) -> bool {
+fn access_is_safe(facts: &Facts, size: u8, scale: u16, i: u8, end: i64) -> bool {
     let goal = Stripe { x: size, a: scale, y: i, z: BLANK, b: end };
     follows(facts, &mut None, &goal)
 }
