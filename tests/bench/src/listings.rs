@@ -41,6 +41,8 @@ pub fn small_bounded() -> Vec<u8> {
 }
 
 const OVER_RESULTS: Loop = Loop { index: 0, count: 1, size: 17, scale: 4, room: 2 };
+/// The same over records that are longer than a byte can count.
+const OVER_LONG_RECORDS: Loop = Loop { scale: 300, ..OVER_RESULTS };
 const SCRATCH: [usize; 4] = [2, 3, 4, 5];
 /// The register that bounds the steps.
 const TURN: usize = 6;
@@ -50,7 +52,12 @@ pub fn typical(points: usize) -> Vec<u8> {
     loops(points, plain_loop).text()
 }
 
-/// The same with a bound on its steps, each way back being covered.
+/// The same over records of 300 bytes.
+pub fn long_records(points: usize) -> Vec<u8> {
+    loops(points, |random, draft| guarded_loop(random, draft, &OVER_LONG_RECORDS, &SCRATCH, 4)).text()
+}
+
+/// The first with a bound on its steps, each way back being covered.
 pub fn typical_bounded(points: usize) -> Vec<u8> {
     let mut draft = loops(points, counted_loop);
     draft.turn = Some(TURN);

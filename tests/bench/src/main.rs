@@ -7,7 +7,9 @@ mod runs;
 mod set_lines;
 mod timing;
 
-use listings::{half_empty, longest, remainders, small, small_bounded, typical, typical_bounded, worst, KeyLink};
+use listings::{
+    half_empty, long_records, longest, remainders, small, small_bounded, typical, typical_bounded, worst, KeyLink,
+};
 use reference::refusals::RUNS_OFF_THE_END;
 use rows::{print_row, Rows};
 use timing::ratio;
@@ -41,6 +43,7 @@ fn print_checks(rows: &mut Rows) {
         ("worst, equal links, key link tried last", worst(KeyLink::Last, true), PASSES),
         ("remainders, 376 points", remainders(), PASSES),
         ("half of the points empty, 512 points", half_empty(512), PASSES),
+        ("records of 300 bytes, 500 points", long_records(500), PASSES),
     ];
     rows.table("listings", "lines");
     for (name, listing, expected) in &listings {

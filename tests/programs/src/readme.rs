@@ -14,6 +14,8 @@ pub fn tests() -> Vec<Test> {
         ("README's division with one register, and with two", || prints("readme_same", "How to read the line", 1, 1)),
         ("README's seeds dealt into packets", || prints("readme_packets", "How to read the line", 2, 0)),
         ("README's empty points", || prints("readme_empty", "How to read the line", 3, 1)),
+        ("README's records of 300 bytes", || prints("readme_records", "How to read the line", 4, 1)),
+        ("README's run over records of 300 bytes", || prints("readme_photographs", "How to read the line", 5, 0)),
         ("README's steps of two listings", || prints("readme_steps", "How many steps will it need?", 0, 1)),
         ("README's run within its bound", || prints("readme_halves", "How many steps will it need?", 1, 0)),
     ]

@@ -21,7 +21,7 @@ fn every_example_has_its_line() {
         assert_eq!(printed(&check(&listing)).to_vec(), expected, "{}", path.display());
         seen += 1;
     }
-    assert_eq!(seen, 22);
+    assert_eq!(seen, 24);
 }
 
 fn record(sown: u16, sprouted: u16) -> [u8; 4] {

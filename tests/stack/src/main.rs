@@ -63,11 +63,11 @@ fn greatest<T>(call: impl Fn(&[u8]) -> T + Sync) -> usize {
 /// The longest numbers that a line may have.
 const WIDEST: [Field; 6] = [
     Field::Number(17),
-    Field::Number(255),
+    Field::Number(4_095),
     Field::Number(17),
     Field::Number(17),
     Field::Blank,
-    Field::Negative(4_398_046_511_104),
+    Field::Negative(70_368_744_177_664),
 ];
 
 fn set_widest() {
