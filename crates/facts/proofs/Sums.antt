@@ -1,5 +1,4 @@
 -- The sums of a test stay far below what 64 bits hold. Assumes nothing.
-use Prim.Native.Nat.{ℕ}
 use native.Mathlib.Omega.{arith}
 use Rattle.facts.specs.Sizes.{SumsBelow}
 

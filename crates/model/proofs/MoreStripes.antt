@@ -1,6 +1,6 @@
 -- What follows from some stripes follows from more of them. Assumes nothing.
 use mathlib.Core.Path.{_≡_, refl}
-use mathlib.Core.Bool.{Bool, true, false, _&&_, _||_, cond, false≢true}
+use mathlib.Core.Bool.{Bool, true, false, _&&_, cond, false≢true}
 use mathlib.Core.List.{List, [], _∷_}
 use Prim.Native.Nat.{ℕ, zero, suc, _+_, _≤_}
 use native.Mathlib.Omega.{arith}
@@ -13,7 +13,7 @@ use Rattle.model.specs.Facts.{Facts, nonEmpty}
 use Rattle.model.specs.Listing.{Point, firstLine}
 use Rattle.model.specs.Follows.{byRanges, covers, atOnce, isLink, overY, overZ, throughLink, follows, claimFollows, firstLost, lostAlong}
 use Rattle.model.specs.Check.{claimsJudged}
-use Rattle.model.proofs.Tests.{or-cases, or-first, or-true, or-kept, and-left, and-kept}
+use Rattle.model.proofs.Tests.{or-true, or-kept, and-kept}
 use Rattle.model.proofs.Reading.{test-passed}
 
 -- a test that some stripe of the first list passes, some of the second passes

@@ -1,32 +1,31 @@
 -- What passed within some limits passes within wider ones, means the same and runs the same. Assumes nothing.
 use mathlib.Core.Path.{_≡_, refl, ap, sym, _∙_}
-use mathlib.Core.Bool.{Bool, true, false, not, _&&_, _||_, cond, false≢true}
+use mathlib.Core.Bool.{Bool, true, false, not, _&&_, cond, false≢true}
 use mathlib.Core.List.{List, [], _∷_, map}
 use Prim.Native.Nat.{ℕ, zero, suc, _+_, _-_, _/_, _≤_, _<_}
 use native.Mathlib.Decide.{decLt}
 use native.Mathlib.Omega.{arith}
-use lib.Dec.{leb, ltb, eqb}
+use lib.Dec.{leb, eqb}
 use lib.ListN.{length, List·getD-eq-default}
 use borrow.Author.Tests.{leb-true, le-leb}
 use Rattle.model.specs.Types.{Field, Word, FoundWord, Unknown, Known, Content, aRegister, aVariable, aTarget, aWidth, aTable, aScale, anOffset, aNumber, aChoice, anOperand, aClaimed, aBound, Kind, empty, plain, optional, signed, Operand, variable, number, Instruction, Stop, Setc, Copy, Addw, Subw, Mulw, Divf, Load, Stor, Jump, Bltu, Bequ, Divm, Edge, Next, Target, Range, Stripe, Claim, Line, refusedLine, claimLine, instructionLine, Judgement, Accepted, refused, Passed, State, ListingLength, LineBytes, NumberLimits, FieldShape}
 use Rattle.model.specs.Limits.{StripeLimits, today, earlier, blankVariable, lineBytes}
-use Rattle.model.specs.Lists.{everyBelow}
 use Rattle.model.specs.Text.{valueIn}
 use Rattle.model.specs.Words.{words, wordAmong, shaped, within, allowed}
 use Rattle.model.specs.Lines.{wellSpelled, fieldsIn, fieldAt, F1, F5, kindAt, inShape, inLimits, registersJudged, judged, lineFrom, lineOr, lineFound, readLine}
 use Rattle.model.specs.Writing.{isTaken}
-use Rattle.model.specs.Listing.{Point, isEmpty, firstLine, lineAt, Reading, going, refusedReading, afterLine, readTo, pointAt, Listing, readAs, refusedListing, listingFrom, goodLength, listingWithin, pointsOf}
-use Rattle.model.specs.Facts.{Facts, factsOf, rangeOf}
-use Rattle.model.specs.Machine.{Tables, sizesOf}
-use Rattle.model.specs.Transfer.{edges, leadsTo, operandRange, sumFits, differenceFits, productFits, dropped, boundInLimits, shifted, stripe, apart, byNumber, sumStripes, differenceStripes, productStripes, rangesAlong, stripesAlong, factsAlong}
-use Rattle.model.specs.Check.{safetyJudged, claimsJudged, edgesJudged, owedJudged, pointJudged, pointsJudged, listingJudgedWithin, verdictFrom, verdictWithin, checkWithin}
-use Rattle.model.specs.Run.{stateJudged, runJudgedWithin, Ran, ranFrom, runWithin}
+use Rattle.model.specs.Listing.{Point, isEmpty, lineAt, Reading, going, refusedReading, afterLine, readTo, pointAt, Listing, readAs, refusedListing, listingFrom, goodLength, listingWithin}
+use Rattle.model.specs.Facts.{factsOf, rangeOf}
+use Rattle.model.specs.Machine.{Tables}
+use Rattle.model.specs.Transfer.{edges, leadsTo, operandRange, sumFits, differenceFits, productFits, dropped, boundInLimits, shifted, stripe, byNumber, sumStripes, differenceStripes, productStripes, stripesAlong, factsAlong}
+use Rattle.model.specs.Check.{safetyJudged, claimsJudged, edgesJudged, owedJudged, pointJudged, pointsJudged, verdictFrom, verdictWithin, checkWithin}
+use Rattle.model.specs.Run.{runJudgedWithin, runWithin}
 use Rattle.model.specs.LongRecords.{PassesAlike, EarlierPassesStand}
 use Rattle.model.proofs.Tests.{and-left, and-right, and-both, and-kept, or-kept, every-below, all-below}
 use Rattle.model.proofs.Lists.{All, all-at}
 use Rattle.model.proofs.Reading.{both-accepted, accepted-both, PointLimited, well-formed}
 use Rattle.model.proofs.Safety.{verdict-accepted}
-use Rattle.model.proofs.MoreStripes.{Included, included-same, included-both, included-if, included-either, kept-included, claims-kept, no-claims}
+use Rattle.model.proofs.MoreStripes.{Included, included-same, included-if, included-either, kept-included, claims-kept, no-claims}
 
 -- each limit is at most the other's
 pub record Wider (L M : StripeLimits) : Type 0 where

@@ -47,6 +47,7 @@ safetyJudged l f (Divm q i r o) = cond (divisorSafe f o) Accepted (refused (Divi
 abbrev pub claimsJudged : ℕ → Facts → Point → Judgement
 claimsJudged l f q = let lost = lostAlong f (firstLine q) (q .claims) in cond (eqb lost 0) Accepted (refused (ClaimMayFail l lost))
 
+-- within these limits of scales and bounds
 module _ (L : StripeLimits) where
   -- the same along each of some edges of q, the p-th point, in order
   abbrev pub edgesJudged : List Point → ℕ → Point → List Edge → Judgement
@@ -70,12 +71,12 @@ module _ (L : StripeLimits) where
   pointsJudged ps zero = Accepted
   pointsJudged ps (suc n) = pointsJudged ps n andThen pointJudged ps n (pointAt ps n)
 
-  -- 12 to 14 over all points of a listing that is read, within the limits; one that is turned back by 1 to 11 or 19 stays so
+  -- 12 to 14 over all points of a listing that is read; one that is turned back by 1 to 11 or 19 stays so
   abbrev pub listingJudgedWithin : Listing → Judgement
   listingJudgedWithin (readAs ps) = pointsJudged ps (length ps)
   listingJudgedWithin (refusedListing r) = refused r
 
--- 12 to 14 over all points of a listing
+-- 12 to 14 within today's limits
 abbrev pub listingJudged : Listing → Judgement
 listingJudged l = listingJudgedWithin today l
 
@@ -84,17 +85,18 @@ abbrev pub verdictFrom : ℕ → Judgement → Verdict
 verdictFrom n Accepted = Passed n
 verdictFrom n (refused r) = refusedVerdict r
 
+-- within these limits of scales and bounds
 module _ (L : StripeLimits) where
   -- the answer for a listing that is read or turned back
   abbrev pub verdictWithin : Listing → Verdict
   verdictWithin (readAs ps) = verdictFrom (length ps) (listingJudgedWithin L (readAs ps))
   verdictWithin (refusedListing r) = refusedVerdict r
 
-  -- the checker's answer within the limits
+  -- the checker's answer
   unfoldable pub checkWithin : List ℕ → Verdict
   unfolding listingWithin pointsJudged
   checkWithin s = verdictWithin (listingWithin L s)
 
--- the checker's answer; a listing is 'passed' if this turns it back by none of 1 to 14 and 19
+-- the checker's answer within today's limits; a listing is 'passed' if this turns it back by none of 1 to 14 and 19
 abbrev pub check : List ℕ → Verdict
 check s = checkWithin today s

@@ -74,6 +74,7 @@ unfoldable pub inShape : Word → List Field → Bool
 unfolding everyBelow shaped fieldsOf
 inShape w fs = everyBelow (λ (j : ℕ). shaped (kindAt w j) (fieldAt fs j)) 6
 
+-- within these limits of scales and bounds
 module _ (L : StripeLimits) where
   -- every number lies within its limits
   unfoldable pub inLimits : Word → List Field → Bool
@@ -104,6 +105,7 @@ registersDiffer TURN fs = true
 abbrev pub registersJudged : ℕ → Word → List Field → Judgement
 registersJudged place w fs = cond (registersDiffer w fs) Accepted (refused (SameRegister place))
 
+-- within these limits of scales and bounds
 module _ (L : StripeLimits) where
   -- 3, 4, 5 and 19: a word and its fields, judged with a line number for place
   unfoldable pub judged : ℕ → FoundWord → List Field → Judgement
@@ -171,6 +173,7 @@ abbrev pub lineOr : Judgement → Line → Line
 lineOr Accepted l = l
 lineOr (refused r) l = refusedLine r
 
+-- within these limits of scales and bounds
 module _ (L : StripeLimits) where
   -- the line of a word that was found, or not, with its fields
   abbrev pub lineFound : ℕ → FoundWord → List Field → Line

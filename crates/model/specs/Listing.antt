@@ -86,6 +86,7 @@ afterLine (going ps cs) k (refusedLine r) = refusedReading r
 afterLine (going ps cs) k (claimLine c) = cond (inOrder k cs c) (going ps (cs ++ (c ∷ []))) (refusedReading (ClaimOrder (k + 1)))
 afterLine (going ps cs) k (instructionLine i) = going (ps ++ (record { line = k + 1; claims = cs; instruction = i } ∷ [])) []
 
+-- within these limits of scales and bounds
 module _ (L : StripeLimits) where
   -- the first n lines
   unfoldable pub readTo : List ℕ → ℕ → Reading
@@ -149,8 +150,9 @@ listingFrom lines (going ps cs) = listingOr (wholeJudged lines ps cs) ps
 unfoldable pub goodLength : ℕ → Bool
 goodLength n = leb 1 n && leb n greatestListing && eqb (n % lineBytes) 0
 
+-- within these limits of scales and bounds
 module _ (L : StripeLimits) where
-  -- a listing, read within the limits
+  -- a listing, read
   unfoldable pub listingWithin : List ℕ → Listing
   unfolding goodLength readTo wholeJudged
   listingWithin s =
@@ -158,7 +160,7 @@ module _ (L : StripeLimits) where
       let read = listingFrom lines (readTo L s lines) in
       cond (goodLength (length s)) read (refusedListing ListingLength)
 
--- a listing, read
+-- a listing, read within today's limits
 abbrev pub listingOf : List ℕ → Listing
 listingOf s = listingWithin today s
 

@@ -37,13 +37,14 @@ claimsMet ps s sizes = cond (meetsClaims ps s sizes) Accepted (refused ClaimsNot
 abbrev pub stateJudged : List Point → State → List ℕ → Judgement
 stateJudged ps s sizes = tablesFit sizes andThen pointExists ps (s .point) andThen claimsMet ps s sizes
 
+-- within these limits of scales and bounds
 module _ (L : StripeLimits) where
-  -- 1 to 17 and 19 within the limits, in their order, for a listing, a state and tables of these sizes
+  -- 1 to 17 and 19, in their order, for a listing, a state and tables of these sizes
   unfoldable pub runJudgedWithin : List ℕ → State → List ℕ → Judgement
   unfolding listingWithin checkWithin every meetsClaims
   runJudgedWithin l s sizes = listingJudgedWithin L (listingWithin L l) andThen stateJudged (pointsOf (listingWithin L l)) s sizes
 
--- 1 to 17 and 19
+-- the same within today's limits
 abbrev pub runJudged : List ℕ → State → List ℕ → Judgement
 runJudged l s sizes = runJudgedWithin today l s sizes
 
@@ -89,12 +90,13 @@ abbrev pub ranFrom : Judgement → List Point → State → Tables → ℕ → R
 ranFrom Accepted ps s t budget = finished ps (runFor ps budget (configOf s t))
 ranFrom (refused r) ps s t budget = record { outcome = record { report = refusedRun r; state = s; steps = 0 }; tables = t }
 
+-- within these limits of scales and bounds
 module _ (L : StripeLimits) where
-  -- a run of a listing, judged within the limits, from a state over tables with a budget
+  -- a run of a listing from a state over tables with a budget
   unfoldable pub runWithin : List ℕ → State → Tables → ℕ → Ran
   unfolding runJudgedWithin runFor
   runWithin l s t budget = ranFrom (runJudgedWithin L l s (sizesOf t)) (pointsOf (listingWithin L l)) s t budget
 
--- a run of a listing from a state over tables with a budget
+-- the same within today's limits
 abbrev pub run : List ℕ → State → Tables → ℕ → Ran
 run l s t budget = runWithin today l s t budget

@@ -3,6 +3,7 @@
 -- counts: an edge with an empty range is impossible. A high end that falls below 0 is written as a range that holds nothing, or stands as
 -- 0 where the low end is at least 1 already (`without`). Where i is o, the change of o acts on the range that the change of i has made; that
 -- is the same as both at once, since the one moves the low end and the other the high end, and an overlap of a range with itself is the range.
+-- A rule that asks for the limits of scales or bounds takes them first.
 use Prim.Native.Nat.{ℕ, _+_, _*_, _-_, _^_, min, max}
 use mathlib.Core.Bool.{Bool, not, _&&_, _||_, cond}
 use mathlib.Core.List.{List, [], _∷_, _++_, map}

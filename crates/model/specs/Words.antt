@@ -104,6 +104,7 @@ shaped (signed c) (Number v) = true
 shaped (signed c) (Negative v) = not (eqb v 0)
 shaped (signed c) Misshapen = false
 
+-- within these limits of scales and bounds
 module _ (L : StripeLimits) where
   -- the limits of a content; of a bound they are the same with and without a minus. f1 and f5 are the numbers of the line's F1 and F5
   unfoldable pub within : Content → ℕ → ℕ → ℕ → Bool

@@ -1,4 +1,4 @@
-// The counts and limits of document 01, as the code uses them. That each is the one of the definitions is proved below.
+// The counts and limits of document 01, with the scale and the bound of document 02, as the code uses them. That each is the one of the definitions is proved below.
 ghost use mathlib.Core.Path.{_≡_};
 ghost use mathlib.Core.List.{[], _∷_};
 ghost use Rattle.model.specs.Limits as Limits;
