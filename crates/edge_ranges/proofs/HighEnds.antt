@@ -23,7 +23,7 @@ use Rattle.model.specs.declared.claims.Stripe.{Stripe}
 use Rattle.model.specs.Limits.{MAX, today}
 use Rattle.model.specs.Facts.{between, exactly, registerRange, rangeOf, hi}
 use Rattle.model.specs.Machine.{bytesOf}
-use Rattle.model.specs.Transfer.{nothing, operandRange, sumFits, sumRange, differenceFits, differenceRange, productFits, productRange, nearestRange, quotientRange, remainderRange, below, atLeast, atMost, overlap, without, hasOneValue, changed, operandChanged, rangesAlong, stripesAlong}
+use Rattle.model.specs.Transfer.{nothing, operandRange, sumFits, sumRange, differenceFits, differenceRange, productFits, productRange, nearestRange, quotientRange, below, atLeast, atMost, overlap, without, hasOneValue, changed, operandChanged, rangesAlong, stripesAlong}
 use Rattle.model.proofs.Tests.{cond-cases}
 use Rattle.model.proofs.Values.{div-small, nearest-small}
 use Rattle.model.specs.Limited.{Limited}

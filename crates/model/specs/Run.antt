@@ -1,7 +1,7 @@
 -- Document 01, 'Turned back' and 'The runs of demand 3': a run with its budget, refusals 15 to 17, and what it hands back.
 -- A run repeats 1 to 14 and 19, then tests 15 for all tables, 16 and 17. A refused run hands back what it was handed, with 0 steps.
 use Prim.Native.Nat.{ℕ, zero, suc, _+_}
-use mathlib.Core.Bool.{Bool, true, false, _&&_, cond}
+use mathlib.Core.Bool.{Bool, _&&_, cond}
 use mathlib.Core.List.{List}
 use lib.ListN.{length}
 use lib.Dec.{leb, ltb}
