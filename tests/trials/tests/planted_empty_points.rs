@@ -1,6 +1,7 @@
 //! A checker that is wrong on purpose about empty points is found out, and the listing that shows it is small.
 
 mod found;
+mod rule;
 
 use found::found;
 use lines::LINE;
@@ -9,7 +10,7 @@ use reference::{
     check, claim_follows, edges, goal_follows, read, read_line, Answer, ClaimLine, Edge, Instruction, Known, Line,
     Listing, Operand, Point, Range, Refusal, Stripe, LINKS, REGISTERS, RESULTS_SIZE, TRAYS_SIZE, VARIABLES,
 };
-use trials::all;
+use rule::{makes_no_difference, numbers_found};
 use trials::shrink::{is_claim, write};
 
 /// How a checker treats empty points. Each is right in all but one thing.
@@ -116,19 +117,13 @@ const FEW_LINES: usize = 8;
 /// The numbers of the reference and of a wrong rule, on a small listing of the family.
 #[track_caller]
 fn rule_found(part: &str, rule: Rule) -> (u64, u64) {
-    let difference = found(part, &|listing| judged(listing, &rule));
-    assert!(difference.listing.len() <= FEW_LINES * LINE, "{difference}");
-    (difference.left.answer.number, difference.right.answer.number)
+    numbers_found(part, FEW_LINES, &|listing| judged(listing, &rule))
 }
 
 /// What is planted below differs from the reference in one thing alone.
 #[test]
 fn the_right_rule_makes_no_difference() {
-    for family in all().into_iter().map(|family| family.thinned(10)) {
-        for listing in (0..family.batches).flat_map(|batch| family.batch(batch)) {
-            assert_eq!(check(&listing), judged(&listing, &RIGHT));
-        }
-    }
+    makes_no_difference(&|listing| judged(listing, &RIGHT));
 }
 
 #[test]

@@ -1,14 +1,15 @@
 //! A checker that is wrong on purpose about scales and bounds is found out, and the listing that shows it is small.
 
 mod found;
+mod rule;
 
-use found::found;
 use lines::LINE;
 use reference::refusals::{ACCESS_MAY_LEAVE, CLAIM_DOES_NOT_FOLLOW, DIVISOR_MAY_BE_ZERO, OUT_OF_LIMITS};
 use reference::{
     check, edges_within, read, Answer, Arithmetic, Claim, Edge, Instruction, Known, Limits, Operand, Point, Refusal,
     Stripe, Whole, LINKS, RESULTS_SIZE, SIZE_LIMIT, TRAYS_SIZE,
 };
+use rule::{makes_no_difference, numbers_found};
 use trials::all;
 use trials::shrink::{number, write};
 
@@ -177,19 +178,13 @@ const FEW_LINES: usize = 9;
 /// The numbers of the reference and of a wrong rule, on a small listing of the family.
 #[track_caller]
 fn rule_found(part: &str, rule: Rule) -> (u64, u64) {
-    let difference = found(part, &|listing| judged(listing, &rule));
-    assert!(difference.listing.len() <= FEW_LINES * LINE, "{difference}");
-    (difference.left.answer.number, difference.right.answer.number)
+    numbers_found(part, FEW_LINES, &|listing| judged(listing, &rule))
 }
 
 /// What is planted below differs from the reference in one thing alone.
 #[test]
 fn the_right_rule_makes_no_difference() {
-    for family in all().into_iter().map(|family| family.thinned(10)) {
-        for listing in (0..family.batches).flat_map(|batch| family.batch(batch)) {
-            assert_eq!(check(&listing), judged(&listing, &RIGHT));
-        }
-    }
+    makes_no_difference(&|listing| judged(listing, &RIGHT));
 }
 
 /// Puts another number in a field of a line with this word, where it has the first.

@@ -1,10 +1,13 @@
 //! A runner that is wrong on purpose about long records is found out, and the call that shows it is small.
 
+mod found_run;
+
+use found_run::{found, lines_of};
 use reference::refusals::{CLAIMS_NOT_MET, OUT_OF_LIMITS};
 use reference::{
     read, run_within, step, Instruction, Known, Limits, Outcome, Point, Refusal, Run, Step, Stripe, Whole, REGISTERS,
 };
-use trials::runs::{all_runs, compare_runs, After, Call, RunDifference};
+use trials::runs::{all_runs, compare_runs, After, Call};
 
 const WALKED: &str = "long records walked by a loop";
 const ACCESSED: &str = "one access of a long record";
@@ -13,19 +16,6 @@ const ROUTINES: &str = "routines over long records, from any point";
 
 /// A loop with one access, and a stripe or two for each of its points.
 const LOOP: usize = 18;
-
-/// The first difference between the reference and a wrong runner, in the family whose name has this part.
-#[track_caller]
-fn found(part: &str, wrong: &dyn Fn(&Call) -> After) -> Box<RunDifference> {
-    let family = all_runs().into_iter().find(|family| family.name.contains(part)).expect("the family exists");
-    let difference = compare_runs(&family, &[("wrong", wrong)]).expect_err("the planted difference is found");
-    println!("{difference}");
-    difference
-}
-
-fn lines_of(difference: &RunDifference) -> usize {
-    difference.call.listing.len() / 40
-}
 
 /// What a runner keeps of the scale of an access.
 type Kept = fn(&Instruction, Whole) -> Whole;

@@ -1,26 +1,16 @@
 //! A runner that is wrong on purpose is found out, and the call that shows it is small.
 
+mod found_run;
 mod mended;
 
+use found_run::{found, lines_of};
 use mended::mended;
 use reference::refusals::{CLAIMS_NOT_MET, DIVISOR_MAY_BE_ZERO, ONE_REGISTER_TWICE, UNKNOWN_WORD};
 use reference::{
     check, read, step, step_bound, Arithmetic, Instruction, Known, Operand, Outcome, Point, Range, Refusal, Run, State,
     Step, MAX,
 };
-use trials::runs::{all_runs, compare_runs, After, Call, RunDifference};
-
-/// The first difference between the reference and a wrong runner, in the family whose name has this part.
-fn found(part: &str, wrong: &dyn Fn(&Call) -> After) -> Box<RunDifference> {
-    let family = all_runs().into_iter().find(|family| family.name.contains(part)).expect("the family exists");
-    let difference = compare_runs(&family, &[("wrong", wrong)]).expect_err("the planted difference is found");
-    println!("{difference}");
-    difference
-}
-
-fn lines_of(difference: &RunDifference) -> usize {
-    difference.call.listing.len() / 40
-}
+use trials::runs::{all_runs, compare_runs, After, Call};
 
 type Registers = [u32; 16];
 
