@@ -42,14 +42,14 @@ pub fn word(n: u64) -> u32
     (n % MODULUS) as u32
 }
 
-// The low 16 bits.
+// The low 16 bits: every scale is kept whole.
 fn scale(n: u64) -> u16
     ensures { λ r. ⌜ r ≡ n % 65536 ⌝ }
 {
     (n % 65_536) as u16
 }
 
-// The low 8 bits.
+// The low 8 bits: every variable is kept whole, and the blank one.
 fn byte(n: u64) -> u8
     ensures { λ r. ⌜ r ≡ n % 256 ⌝ }
 {
