@@ -1,8 +1,4 @@
-pub mod ClaimedRange
-pub mod FirstClaim
-pub mod RowEdges
-pub mod TargetMarks
-pub mod CoveredPoints
+pub mod JudgedBound
 pub mod Rank
 pub mod CoveredEdges
 pub mod RankFalls

@@ -1,12 +1,4 @@
-// How many steps a passed listing needs at most from point 0: refusal 20, and the bound.
-mod back;
-mod covered;
-mod points;
-mod range;
-mod turn;
-mod writers;
-
-use crate::points::points_bound;
+// How many steps a passed listing needs at most from point 0: the calls on a listing, and the proof that its runs stop within the bound.
 use checker::judged_listing;
 use model::answers::Judgement;
 use model::answers::StepBound;
@@ -19,12 +11,13 @@ use reader::sizes::LONG_ROWS;
 use reader::sizes::PLACE_NUMBERS;
 use reader::sizes::SHORT_LISTING;
 use reader::sizes::SHORT_ROWS;
+use ways_back::points::points_bound;
 ghost use mathlib.Core.Path.{_≡_};
 ghost use Prim.Native.Nat.{_*_, _/_, _≤_};
 ghost use lib.ListN.{length};
 ghost use Rattle.model.specs.Limits.{lineBytes, greatestListing};
 ghost use Rattle.model.specs.Bound.{stepBound};
-ghost use Rattle.step_bound.specs.Covering.{fewListing};
+ghost use Rattle.step_bound.specs.FewLines.{fewListing};
 ghost use Rattle.output.specs.BoundLine.{boundLine};
 
 // The bound, with rows that are lent for the lines.
