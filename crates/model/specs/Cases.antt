@@ -1042,7 +1042,6 @@ table =
     ∷ pointsOweWithin earlier (multiplied 256) (refusedBy 14 2 3)
     -- records of 300 bytes, walked
     ∷ checked records (passes 7)
-    ∷ checkedEarlier records (refusedBy 5 1 0)
     ∷ runs records (standing 0 0 2 0) twoRecords (replicate 4 255) 12 (afterRun stops 12 (standing 2 2 2 9) twoRecords (7 ∷ 1 ∷ 9 ∷ 0 ∷ []))
     ∷ []
 
