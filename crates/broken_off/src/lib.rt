@@ -1,4 +1,6 @@
 // What a run that was broken off has left of its new files: told, and put right.
+#![tactic(auto)]
+
 ghost use Rattle.std.specs.Prelude.{◌≡◌, length};
 ghost use Rattle.io.specs.Counts.{IsPrefixLen};
 

@@ -1,6 +1,8 @@
 // Reads a listing from standard input and prints the checker's line: check_listing [NAME]. With a second argument, whatever it is, the
 // line is that of the listing's bound on steps. Where the line is FAIL, standard error says in words what it means. NAME stands there
 // for the listing, or 'standard input' where no name is given or an empty one.
+#![tactic(auto)]
+
 ghost use Rattle.std.specs.Prelude.{◌≡◌};
 ghost use Rattle.model.specs.declared.answers.Judgement.TheVariants.{Refused};
 ghost use Rattle.check_listing.specs.Program.{verdict_judged, bound_judged, Tells, input_listing, line_of, judged_of};

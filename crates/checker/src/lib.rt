@@ -1,4 +1,6 @@
 // The checker: its answer, and the printed line.
+#![tactic(auto)]
+
 ghost use Rattle.std.specs.Prelude.{◌≡◌, ◌*◌, ◌/◌, ◌≤◌, length};
 ghost use Rattle.model.specs.Limits.{line_bytes, greatest_listing};
 ghost use Rattle.model.specs.Check;

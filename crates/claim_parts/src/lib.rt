@@ -1,4 +1,6 @@
 // The claim lines of a point as a part of the lent listing, and what turns the call for them back.
+#![tactic(auto)]
+
 ghost use Rattle.std.specs.Prelude.{◌≡◌, List, ℕ, ◌≤◌, ◌<◌, length};
 ghost use Rattle.model.specs.declared.answers.Judgement.TheVariants.{Accepted, Refused as refused};
 ghost use Rattle.model.specs.Limits.{greatest_points, greatest_lines};

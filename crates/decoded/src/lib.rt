@@ -1,4 +1,6 @@
 // What a row holds.
+#![tactic(auto)]
+
 ghost use Rattle.std.specs.Prelude.{◌≡◌, ◌+◌, ◌*◌, ◌%◌, ◌≤◌, length};
 ghost use Rattle.model.specs.Limits.{modulus};
 ghost use Rattle.model.specs.Instructions.{has_target};

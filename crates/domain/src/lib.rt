@@ -1,5 +1,7 @@
 // What is known at a point and along an edge, in lent arrays of numbers: the low and the high end of each range, and rows of six numbers for the stripes.
 // A range that holds nothing may have a low end above every value of a register, so ends are 64-bit numbers and are never cut.
+#![tactic(auto)]
+
 ghost use Rattle.std.specs.Prelude.{◌≡◌, [], ◌∷◌, ◌+◌, ◌≤◌, length};
 ghost use Rattle.model.specs.Limits.{variables, greatest_stripes, today};
 ghost use Rattle.model.specs.Facts as Model;

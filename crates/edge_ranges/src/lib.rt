@@ -1,4 +1,6 @@
 // What an edge does to the ranges: at most two of them change.
+#![tactic(auto)]
+
 ghost use Rattle.std.specs.Prelude.{◌≡◌, ◌<◌, List, length, set};
 ghost use Rattle.model.specs.Limits.{variables};
 ghost use Rattle.model.specs.declared.claims.Range.{Range};

@@ -1,4 +1,6 @@
 // What an edge does to the stripes, a function for each rule.
+#![tactic(auto)]
+
 ghost use Rattle.std.specs.Prelude.{◌≡◌, cond, List, ◌∷◌, ◌<◌, ◌≤◌, eqb};
 ghost use Rattle.model.specs.declared.claims.Stripe.{Stripe};
 ghost use Rattle.model.specs.declared.machine.Operand.TheVariants.{Number};

@@ -1,4 +1,6 @@
 // What a line holds, as a row.
+#![tactic(auto)]
+
 ghost use Rattle.std.specs.Prelude.{◌≡◌, true, cond, List, eqb};
 ghost use Rattle.model.specs.declared.text.Field.{Field};
 ghost use Rattle.model.specs.Limits.{blank_variable};

@@ -1,4 +1,6 @@
 // Writes a refusal in words to standard error.
+#![tactic(auto)]
+
 use answer_numbers::refusal::numbers;
 use explained::shown::{shown_line, trimmed};
 use explained::words::words;

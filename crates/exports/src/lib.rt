@@ -1,4 +1,6 @@
 // The checker, the bound on steps, the claim lines and the runner for C and Rust.
+#![tactic(auto)]
+
 ghost use Rattle.std.specs.Prelude.{◌≡◌};
 ghost use Rattle.model.specs.Listing.{claim_part};
 ghost use Rattle.model.specs.Check.{check};

@@ -1,5 +1,7 @@
 // The instruction at a point, from the rows of a run. The loop of a run is its only caller and each number is read in the arm that
 // needs it, so that it becomes a part of the step and no instruction is kept.
+#![tactic(auto)]
+
 ghost use Rattle.std.specs.Prelude.{◌≡◌, ◌+◌, ◌*◌, ◌≤◌, length};
 ghost use Rattle.model.specs.Instructions.{is_stop};
 ghost use Rattle.line_rows.specs.Rows.{row_at};

@@ -1,4 +1,6 @@
 // The run of the bytes of four files, with what it prints and saves.
+#![tactic(auto)]
+
 ghost use Rattle.std.specs.Prelude.{◌≡◌, true};
 ghost use Rattle.saved.specs.Numbers.{number_in};
 ghost use Rattle.saved.specs.States.{saved_in};

@@ -1,4 +1,6 @@
 // Files read whole; new files made beside others, written, and renamed.
+#![tactic(auto)]
+
 ghost use Rattle.std.specs.Prelude.{◌≡◌};
 ghost use Rattle.recovery.specs.Names.{new_name};
 ghost use Rattle.files.specs.Reading.{is_whole};

@@ -1,5 +1,7 @@
 // The runner's second entry: a state is lent to it and holds the new one afterwards. It is proved by a walk of its code by hand, and so
 // has a crate of its own.
+#![tactic(auto)]
+
 ghost use Rattle.model.specs.Machine.{lent};
 ghost use Rattle.model.specs.Run as Run;
 ghost use Rattle.runner.specs.Runs.{RunInPlace};

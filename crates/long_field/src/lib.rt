@@ -1,4 +1,6 @@
 // F6: fifteen columns, where a minus may stand, gathered in 64 bits. What fifteen columns give is less than 10^15, so no overflow is tested.
+#![tactic(auto)]
+
 ghost use Rattle.std.specs.Prelude.{◌≡◌, false, cond, ◌+◌, ◌≤◌, ◌<◌, length, get_or, eqb};
 ghost use Rattle.model.specs.declared.text.Shape.TheVariants.{Spaces, Digits, Sign, Signed};
 ghost use Rattle.model.specs.Text.{space, shape_of, digits_of, field_of};

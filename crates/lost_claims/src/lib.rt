@@ -1,4 +1,6 @@
 // Refusal 14: the claims of a point that do not follow along an edge to it.
+#![tactic(auto)]
+
 ghost use Rattle.std.specs.Prelude.{◌≡◌, true, cond, ◌+◌, ◌≤◌};
 ghost use Rattle.model.specs.Limits.{greatest_lines, today};
 ghost use Rattle.model.specs.declared.answers.Judgement.TheVariants.{Accepted};

@@ -1,4 +1,6 @@
 // The ranges of quotients and of a remainder.
+#![tactic(auto)]
+
 ghost use Rattle.std.specs.Prelude.{◌≡◌};
 ghost use Rattle.model.specs.Transfer.{nearest_range, quotient_range, remainder_range};
 ghost use Rattle.facts.specs.Known.{Word};

@@ -1,4 +1,6 @@
 // The two ranges that an instruction reads, and the ends of a range moved: at least, at most or below a number, away from one, or to what two ranges share.
+#![tactic(auto)]
+
 ghost use Rattle.std.specs.Prelude.{◌≡◌, cond, ◌+◌, ◌-◌, ◌≤◌, min, max, eqb};
 ghost use Rattle.model.specs.Limits.{MAX};
 ghost use Rattle.model.specs.Transfer as Model;

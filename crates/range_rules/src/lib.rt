@@ -1,4 +1,6 @@
 // The ranges of a sum, a difference, a product and a loaded value.
+#![tactic(auto)]
+
 ghost use Rattle.std.specs.Prelude.{◌≡◌, cond, ◌-◌, ◌^◌, ◌≤◌};
 ghost use Rattle.model.specs.Facts.{between, register_range};
 ghost use Rattle.model.specs.Machine.{bytes_of};

@@ -1,4 +1,6 @@
 // The lines of a listing, read in order: a row of numbers for each, and a place for each point.
+#![tactic(auto)]
+
 pub mod places;
 pub mod read;
 pub mod sizes;

@@ -3,6 +3,8 @@
 // The wrapper, which holds the locks of the files on a descriptor, names that descriptor after them, and then the names that it was given
 // for the results and the state: the new files are there already. run_listing RESULTS STATE LOCK puts right what a run has left that was
 // broken off.
+#![tactic(auto)]
+
 ghost use Rattle.std.specs.Prelude.{◌≡◌, true};
 ghost use Rattle.saved.specs.Numbers.{number_in};
 ghost use Rattle.saved.specs.States.{saved_in};

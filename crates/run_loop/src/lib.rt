@@ -1,4 +1,6 @@
 // The loop of a run: a listing that passes is run by the code of its points, and no step is tested.
+#![tactic(auto)]
+
 ghost use Rattle.std.specs.Prelude.{◌≡◌, take};
 ghost use Rattle.model.specs.declared.answers.Judgement.TheVariants.{Accepted};
 ghost use Rattle.model.specs.Limits.{registers};

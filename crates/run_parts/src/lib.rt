@@ -1,4 +1,6 @@
 // What a run over files is, and of its report: whether the run was made, and which file a refusal is about.
+#![tactic(auto)]
+
 ghost use Rattle.std.specs.Prelude.{◌≡◌};
 ghost use Rattle.run_parts.specs.FileRun.{is_made, file_of};
 

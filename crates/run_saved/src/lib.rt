@@ -1,4 +1,6 @@
 // What a run over files hands back: saved, printed, or explained.
+#![tactic(auto)]
+
 ghost use Rattle.std.specs.Prelude.{◌≡◌};
 ghost use Rattle.run_parts.specs.FileRun.{run_of, line_of, Saves};
 

@@ -1,4 +1,6 @@
 // The runner: a run of a listing with a budget of steps.
+#![tactic(auto)]
+
 ghost use Rattle.std.specs.Prelude.{◌≡◌, ◌*◌, ◌/◌, ◌≤◌, length};
 ghost use Rattle.model.specs.declared.answers.Judgement.TheVariants.{Accepted};
 ghost use Rattle.model.specs.declared.answers.Report.TheVariants.{Refused as refused_run};

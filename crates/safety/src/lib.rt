@@ -1,4 +1,6 @@
 // Refusals 12 and 13: whether the divisor or the access of a point is safe by what is known at the point itself.
+#![tactic(auto)]
+
 ghost use Rattle.std.specs.Prelude.{◌≡◌, cond, ◌+◌, ◌*◌, ◌≤◌, ◌<◌, leb};
 ghost use Rattle.model.specs.declared.answers.Judgement.TheVariants.{Accepted, Refused};
 ghost use Rattle.model.specs.declared.answers.Refusal.TheVariants.{DivisorMayBeZero, AccessMayLeave};

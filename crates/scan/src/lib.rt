@@ -1,4 +1,6 @@
 // The lines of a listing in order: what has been read so far, and the first refusal.
+#![tactic(auto)]
+
 ghost use Rattle.std.specs.Prelude.{◌≡◌, ◌≤◌, ◌<◌, []};
 ghost use Rattle.model.specs.Limits.{greatest_stripes, greatest_lines};
 ghost use Rattle.model.specs.Listing.{going};

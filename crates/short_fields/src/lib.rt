@@ -1,4 +1,6 @@
 // F1 to F5: four columns, where no word asks for a minus, gathered in 16 bits. What four columns give is less than 10^4, so no overflow is tested.
+#![tactic(auto)]
+
 ghost use Rattle.std.specs.Prelude.{◌≡◌, false, ◌+◌, ◌≤◌, ◌<◌, length, get_or, eqb};
 ghost use Rattle.model.specs.declared.text.Shape.TheVariants.{Spaces, Digits};
 ghost use Rattle.model.specs.Text.{space, shape_of, digits_of, field_of};

@@ -1,4 +1,6 @@
 // 15 to 17: what is tested of the tables and the state that a run is handed.
+#![tactic(auto)]
+
 mod meets;
 
 ghost use Rattle.std.specs.Prelude.{◌≡◌, true, length};

@@ -1,4 +1,6 @@
 // How many steps a passed listing needs at most from point 0: the calls on a listing, and the proof that its runs stop within the bound.
+#![tactic(auto)]
+
 ghost use Rattle.std.specs.Prelude.{◌≡◌, ◌*◌, ◌/◌, ◌≤◌, length};
 ghost use Rattle.model.specs.Limits.{line_bytes, greatest_listing};
 ghost use Rattle.model.specs.Bound.{step_bound};

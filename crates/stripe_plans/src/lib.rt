@@ -1,4 +1,6 @@
 // What is to be done to the stripes along an edge, as a plan, and how it is carried out.
+#![tactic(auto)]
+
 ghost use Rattle.std.specs.Prelude.{◌≡◌, [], ◌∷◌, ◌+◌, ◌<◌, ◌≤◌};
 ghost use Rattle.model.specs.Limits.{MAX, greatest_scale, greatest_bound};
 ghost use Rattle.model.specs.Transfer as Model;

@@ -1,4 +1,6 @@
 // Tests of one stripe: whether it names a variable, and whether its bound lies within its limits.
+#![tactic(auto)]
+
 ghost use Rattle.std.specs.Prelude.{◌≡◌, ◌||◌};
 ghost use Rattle.model.specs.Limits.{today};
 ghost use Rattle.model.specs.Transfer as Model;

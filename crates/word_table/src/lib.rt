@@ -1,4 +1,6 @@
 // The table of the words: what each asks of its six fields.
+#![tactic(auto)]
+
 ghost use Rattle.std.specs.Prelude.{◌≡◌, List};
 ghost use Rattle.model.specs.declared.text.Field.{Field};
 ghost use Rattle.model.specs.declared.text.FoundWord.TheVariants.{Known};

@@ -1,4 +1,6 @@
 // One line of a lent listing, set from a word, six fields and the line's number.
+#![tactic(auto)]
+
 pub mod kinds;
 
 ghost use Rattle.std.specs.Prelude.{◌≡◌, ◌+◌, ◌*◌, ◌-◌, ◌≤◌, length};

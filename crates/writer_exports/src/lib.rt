@@ -1,4 +1,6 @@
 // The setting of a line for C and Rust. It is a library of its own, so that the reader's code in the other one is made for the reader alone.
+#![tactic(auto)]
+
 ghost use Rattle.std.specs.Prelude.{◌≡◌};
 ghost use Rattle.model.specs.Writing.{line_judged, listing_set};
 ghost use Rattle.answer_numbers.specs.Arrays.{judged_answer};

@@ -1,4 +1,6 @@
 // A whole line written: a word, six fields and the end of the line. The line is cleared first, so that only what is no space is set.
+#![tactic(auto)]
+
 ghost use Rattle.std.specs.Prelude.{◌≡◌, Bool, ◌+◌, ◌≤◌, ◌<◌, length};
 ghost use Rattle.model.specs.declared.text.Shape.TheVariants.{Sign};
 ghost use Rattle.model.specs.declared.text.Field.TheVariants.{Negative};
