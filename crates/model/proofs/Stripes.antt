@@ -89,8 +89,8 @@ module _ (d : ℕ) (val val' : ℕ → ℕ) (same : OnlyAt d val val') where
     shifted-hold ss h = kept-hold val' (bound_in_limits today) (map (shifted d up down) ss) (map-shifted ss h)
 
   -- d becomes i + up − down
-  pub by_number : (i up down : ℕ) (ss : List Stripe) → val' blank_variable ≡ 0 → val' d + down ≡ val i + up → AllHold val ss → AllHold val' (by_number today d i up down ss)
-  by_number i up down ss z moved h =
+  pub by_number-hold : (i up down : ℕ) (ss : List Stripe) → val' blank_variable ≡ 0 → val' d + down ≡ val i + up → AllHold val ss → AllHold val' (by_number today d i up down ss)
+  by_number-hold i up down ss z moved h =
       cond_cases (AllHold val') (eqb d i) (all_shifted today d up down ss) (apart d i up down ∷ apart i d down up ∷ dropped d ss)
       (λ e. let q : val d ≡ val i = ap val (eqb-true d i e) in shifted-hold up down (omega arith) ss h)
       (λ e.

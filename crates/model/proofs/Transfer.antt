@@ -18,7 +18,7 @@ use Rattle.model.specs.Transfer.{nothing, operand_range, sum_fits, difference_fi
 use Rattle.model.proofs.Tests.{and_right, or-false, cond_cases}
 use Rattle.model.proofs.Meaning.{InRange, InRanges, AllHold, Met}
 use Rattle.model.proofs.Ranges.{OnlyAt, in-set, in-changed, blank-zero}
-use Rattle.model.proofs.Stripes.{same-hold, apart-holds, dropped-hold, by_number}
+use Rattle.model.proofs.Stripes.{same-hold, apart-holds, dropped-hold, by_number-hold}
 use Rattle.model.proofs.Values.{div-ends, nearest-ends, mul-ends}
 
 module _ (vs : List ℕ) (f : Facts) (h : Met (value_at vs) f) where
@@ -65,7 +65,7 @@ module _ (vs : List ℕ) (f : Facts) (h : Met (value_at vs) f) where
             go (no n) = same v n
 
     sum-hold : (i : ℕ) (o : Operand) → value_at vs' d ≡ value_at vs i + operand_at vs o → AllHold (value_at vs') (sum_stripes today d i o f.stripes)
-    sum-hold i (number c) q = by_number d (value_at vs) (value_at vs') same i c 0 f.stripes zero' (omega arith) h.stripes
+    sum-hold i (number c) q = by_number-hold d (value_at vs) (value_at vs') same i c 0 f.stripes zero' (omega arith) h.stripes
     sum-hold i (variable v) q =
         cond_cases (AllHold (value_at vs')) (eqb d i || eqb d v) (dropped d f.stripes) (stripe d 1 i v 0 0 ∷ dropped d f.stripes) (λ t. dropped-met)
         (λ t.
@@ -75,7 +75,7 @@ module _ (vs : List ℕ) (f : Facts) (h : Met (value_at vs) f) where
         (omega arith, dropped-met))
 
     difference-hold : (i : ℕ) (o : Operand) → value_at vs' d + operand_at vs o ≡ value_at vs i → AllHold (value_at vs') (difference_stripes today d i o f.stripes)
-    difference-hold i (number c) q = by_number d (value_at vs) (value_at vs') same i 0 c f.stripes zero' (omega arith) h.stripes
+    difference-hold i (number c) q = by_number-hold d (value_at vs) (value_at vs') same i 0 c f.stripes zero' (omega arith) h.stripes
     difference-hold i (variable v) q =
         cond_cases (AllHold (value_at vs')) (eqb d i || eqb d v) (dropped d f.stripes) (stripe i 1 d v 0 0 ∷ dropped d f.stripes) (λ t. dropped-met)
         (λ t.
