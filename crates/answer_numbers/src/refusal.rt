@@ -5,7 +5,7 @@ ghost use Rattle.model.specs.Answers.{number_of, place_of, second_place_of};
 use model::answers::Refusal;
 
 // What a refusal is told by: its number, its place and its second place; 0 is no place.
-#[derive(Drop)]
+#[derive(Clone, Copy)]
 pub struct RefusalNumbers {
     pub number: u64,
     pub place: u64,

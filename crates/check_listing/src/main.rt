@@ -14,7 +14,7 @@ use output::bound_line::bound_line;
 use output::printed::printed;
 
 // What is told of a listing: the line, and whether the listing is turned back.
-#[derive(Drop)]
+#[derive(Clone, Copy)]
 struct Told {
     line: [u8; 40],
     judgement: Judgement,

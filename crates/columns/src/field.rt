@@ -16,14 +16,14 @@ pub const NEGATIVE: u8 = 2;
 pub const MISSHAPEN: u8 = 3;
 
 // A field as its shape and its number, which is 0 where there is none: no use of the number has to look at the shape.
-#[derive(Drop)]
+#[derive(Clone, Copy)]
 pub struct KeptField {
     pub shape: u8,
     pub number: u64,
 }
 
 // The six fields of a line: their shapes in one number, F6 in its last two binary digits, and the number of each.
-#[derive(Drop)]
+#[derive(Clone, Copy)]
 pub struct KeptFields {
     pub shapes: u32,
     pub first: u64,

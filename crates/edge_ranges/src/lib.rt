@@ -20,7 +20,7 @@ use range_ends::{Pair, at_least, at_most, below, overlap, without};
 use range_rules::{difference, loaded, product, sum};
 
 // At most two changes of ranges: the range of v becomes r, then that of u becomes q.
-#[derive(Drop)]
+#[derive(Clone, Copy)]
 pub struct Changes {
     pub v: usize,
     pub r: Range,

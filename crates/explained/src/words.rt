@@ -5,7 +5,7 @@ ghost use Rattle.explained.specs.Explanation.{meaning_of, advice_of, padded};
 use model::answers::Refusal;
 
 // What a refusal means, and what to do about it.
-#[derive(Drop)]
+#[derive(Clone, Copy)]
 pub struct RefusalWords {
     pub meaning: [u8; 80],
     pub advice: [u8; 80],

@@ -21,14 +21,14 @@ const TABLES: u64 = limits::TABLES as u64;
 const GREATEST_POINTS: u64 = limits::GREATEST_POINTS as u64;
 
 // The shape that is due, and whether the number is allowed.
-#[derive(Drop)]
+#[derive(Clone, Copy)]
 pub struct Asked {
     pub shape: u8,
     pub allowed: bool,
 }
 
 // The same of six fields.
-#[derive(Drop)]
+#[derive(Clone, Copy)]
 pub struct AskedRow {
     pub shapes: u32,
     pub allowed: bool,

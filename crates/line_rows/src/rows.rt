@@ -6,7 +6,7 @@ ghost use Rattle.line_rows.specs.Rows.{row_at, with_row};
 pub const ROW_NUMBERS: usize = 8;
 
 // A kind and the numbers of F1 to F6; F6 takes two, what a bound adds and what it takes away.
-#[derive(Drop)]
+#[derive(Clone, Copy)]
 pub struct Row {
     pub kind: u64,
     pub first: u64,

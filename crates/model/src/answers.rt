@@ -5,7 +5,7 @@ ghost use Rattle.model.specs.Answers.{is_refused};
 use crate::machine::State;
 
 // Why a listing, a state or a call is turned back: a case for each number from 1 to 20, in their order, with the lines that it names.
-#[derive(Drop)]
+#[derive(Clone, Copy)]
 pub enum Refusal {
     ListingLength,
     LineBytes { line: usize },
@@ -30,7 +30,7 @@ pub enum Refusal {
 }
 
 // Whether something is turned back.
-#[derive(Drop)]
+#[derive(Clone, Copy)]
 pub enum Judgement {
     Accepted,
     Refused(Refusal),
@@ -47,21 +47,21 @@ pub fn is_refused(j: Judgement) -> bool
 }
 
 // The checker's answer: the number of points of a passed listing, or the refusal.
-#[derive(Drop)]
+#[derive(Clone, Copy)]
 pub enum Verdict {
     Passed { points: usize },
     Refused(Refusal),
 }
 
 // The answer for the steps that a listing needs: a bound of a passed listing, or the refusal.
-#[derive(Drop)]
+#[derive(Clone, Copy)]
 pub enum StepBound {
     Bounded { steps: u64 },
     Refused(Refusal),
 }
 
 // The answer for the claim lines of a point: whether the call is turned back, where in the listing the part that holds them begins, and how many bytes it has.
-#[derive(Drop)]
+#[derive(Clone, Copy)]
 pub struct ClaimPart {
     pub judgement: Judgement,
     pub offset: usize,
@@ -69,7 +69,7 @@ pub struct ClaimPart {
 }
 
 // How a run ended.
-#[derive(Drop)]
+#[derive(Clone, Copy)]
 pub enum Report {
     Stopped,
     Paused,
@@ -77,7 +77,7 @@ pub enum Report {
 }
 
 // What a run hands back.
-#[derive(Drop)]
+#[derive(Clone, Copy)]
 pub struct Outcome {
     pub report: Report,
     pub state: State,

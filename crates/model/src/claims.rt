@@ -9,7 +9,7 @@ use crate::limits::{GREATEST_SIZE, MAX, REGISTERS};
 use crate::machine::Instruction;
 
 // The values from lo to hi; empty where lo is above hi.
-#[derive(Drop)]
+#[derive(Clone, Copy)]
 pub struct Range {
     pub lo: u64,
     pub hi: u64,
@@ -58,7 +58,7 @@ impl Range {
 }
 
 // The claim x - a * (y + z) >= plus - minus. A blank z is the number of variables, one past the last.
-#[derive(Drop)]
+#[derive(Clone, Copy)]
 pub struct Stripe {
     pub x: u8,
     pub a: u16,
@@ -69,7 +69,7 @@ pub struct Stripe {
 }
 
 // A claim as a line writes it. TURN names a register and claims nothing of it.
-#[derive(Drop)]
+#[derive(Clone, Copy)]
 pub enum Claim {
     Leas { v: usize, least: u64 },
     Most { v: usize, most: u64 },
@@ -78,14 +78,14 @@ pub enum Claim {
 }
 
 // The register of a TURN line, or none.
-#[derive(Drop)]
+#[derive(Clone, Copy)]
 pub enum Turning {
     Absent,
     Register(usize),
 }
 
 // A line of a listing as it is read.
-#[derive(Drop)]
+#[derive(Clone, Copy)]
 pub enum Line {
     Refused(Refusal),
     Claim(Claim),

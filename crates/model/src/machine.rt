@@ -1,7 +1,7 @@
 // The machine: its instructions and its state.
 use crate::limits::REGISTERS;
 // How many bytes an access takes.
-#[derive(Drop)]
+#[derive(Clone, Copy)]
 pub enum Width {
     One,
     Two,
@@ -9,21 +9,21 @@ pub enum Width {
 }
 
 // The table that an access names.
-#[derive(Drop)]
+#[derive(Clone, Copy)]
 pub enum Table {
     Trays,
     Results,
 }
 
 // The second operand of an instruction.
-#[derive(Drop)]
+#[derive(Clone, Copy)]
 pub enum Operand {
     Variable(usize),
     Number(u32),
 }
 
 // An access: so many bytes of a table, from a * i + k on.
-#[derive(Drop)]
+#[derive(Clone, Copy)]
 pub struct Access {
     pub table: Table,
     pub w: Width,
@@ -33,7 +33,7 @@ pub struct Access {
 }
 
 // An instruction, a case for each word.
-#[derive(Drop)]
+#[derive(Clone, Copy)]
 pub enum Instruction {
     Stop,
     Setc {
@@ -101,7 +101,7 @@ pub enum Instruction {
 }
 
 // A way on from a point: to the next point, or to the target that its instruction names.
-#[derive(Drop)]
+#[derive(Clone, Copy)]
 pub enum Edge {
     Next,
     Target(usize),
@@ -109,7 +109,7 @@ pub enum Edge {
 
 // A state: a point and the registers, laid out as C does, so that one can be lent across it.
 #[repr(C)]
-#[derive(Drop)]
+#[derive(Clone, Copy)]
 pub struct State {
     pub point: usize,
     pub registers: [u32; REGISTERS],

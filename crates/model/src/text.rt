@@ -1,6 +1,6 @@
 // The text of a listing: a field's columns, the words, what a field holds.
 // The columns of a field so far, without the number that they give.
-#[derive(Drop)]
+#[derive(Clone, Copy)]
 pub enum Shape {
     Spaces,
     Zero,
@@ -11,7 +11,7 @@ pub enum Shape {
 }
 
 // A field as it is read: blank, a number, a minus and a number, or misshapen.
-#[derive(Drop)]
+#[derive(Clone, Copy)]
 pub enum Field {
     Blank,
     Number(u64),
@@ -20,7 +20,7 @@ pub enum Field {
 }
 
 // The words that begin a line.
-#[derive(Drop)]
+#[derive(Clone, Copy)]
 pub enum Word {
     Stop,
     Setc,
@@ -42,14 +42,14 @@ pub enum Word {
 }
 
 // The word of a line, where its four bytes are one.
-#[derive(Drop)]
+#[derive(Clone, Copy)]
 pub enum FoundWord {
     Unknown,
     Known(Word),
 }
 
 // What the number of a field stands for.
-#[derive(Drop)]
+#[derive(Clone, Copy)]
 pub enum Content {
     Register,
     Variable,
@@ -66,7 +66,7 @@ pub enum Content {
 }
 
 // What a word asks of a field: nothing but spaces, a number, a number or spaces, a number that may have a minus.
-#[derive(Drop)]
+#[derive(Clone, Copy)]
 pub enum Kind {
     Empty,
     Plain(Content),

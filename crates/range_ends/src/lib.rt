@@ -23,7 +23,7 @@ pub fn larger(a: u64, b: u64) -> u64
 }
 
 // The range of the variable i and that of the operand o of an instruction.
-#[derive(Drop)]
+#[derive(Clone, Copy)]
 pub struct Pair {
     pub r: Range,
     pub q: Range,

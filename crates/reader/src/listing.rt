@@ -10,7 +10,7 @@ use rows_and_places::read::read_lines;
 use scan::Progress;
 
 // A listing that is read: so many points, where the judgement accepts it.
-#[derive(Drop)]
+#[derive(Clone, Copy)]
 pub struct Listing {
     pub judgement: Judgement,
     pub count: usize,

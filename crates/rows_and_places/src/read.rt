@@ -24,7 +24,7 @@ use model::text::{FoundWord, Word};
 use scan::{Progress, Sort, after, begin};
 
 // What is read of a line: its row, and what the order of the lines depends on.
-#[derive(Drop)]
+#[derive(Clone, Copy)]
 pub struct Read {
     pub row: Row,
     pub sort: Sort,

@@ -31,7 +31,7 @@ use state_tests::state_judged;
 const ALL_CODE: usize = GREATEST_POINTS * ROW_NUMBERS;
 
 // What a run in place hands back besides the state.
-#[derive(Drop)]
+#[derive(Clone, Copy)]
 pub struct Ending {
     pub report: Report,
     pub steps: u32,

@@ -4,7 +4,7 @@ ghost use Rattle.model.specs.Limits.{modulus};
 ghost use Rattle.saved.specs.Numbers.{with_digit, digits_to, number_in};
 
 // An argument read as a number.
-#[derive(Drop)]
+#[derive(Clone, Copy)]
 pub enum Parsed {
     Number(u32),
     NoNumber,

@@ -14,28 +14,28 @@ use model::text::{Field, FoundWord, Word};
 use writer::write_line;
 
 // The point that a line goes to.
-#[derive(Drop)]
+#[derive(Clone, Copy)]
 enum Target {
     Point(usize),
     NoPoint,
 }
 
 // The number that a line sets a register to.
-#[derive(Drop)]
+#[derive(Clone, Copy)]
 enum Setting {
     Value(u32),
     NoValue,
 }
 
 // The registers read so far, and whether every line so far is as it should be.
-#[derive(Drop)]
+#[derive(Clone, Copy)]
 struct Reading {
     whole: bool,
     registers: [u32; REGISTERS],
 }
 
 // A text read: whether it is a state, and the state.
-#[derive(Drop)]
+#[derive(Clone, Copy)]
 pub struct Saved {
     pub whole: bool,
     pub state: State,

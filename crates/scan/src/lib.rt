@@ -10,14 +10,14 @@ use model::answers::Refusal;
 use model::limits::GREATEST_STRIPES;
 
 // What decides where a claim may stand: the rank of its word, TURN 0, LEAS 1, MOST 2 and STRP 3, and the variable of LEAS and MOST.
-#[derive(Drop)]
+#[derive(Clone, Copy)]
 pub struct Order {
     pub rank: u64,
     pub variable: u64,
 }
 
 // What the order of the lines depends on: of LEAS and MOST their variable.
-#[derive(Drop)]
+#[derive(Clone, Copy)]
 pub enum Sort {
     Refused(Refusal),
     Leas(u64),
@@ -28,7 +28,7 @@ pub enum Sort {
 }
 
 // What has been read so far: the points, and of the claims since the last of them how many, how many stripes, and the order of the last.
-#[derive(Drop)]
+#[derive(Clone, Copy)]
 pub struct Scan {
     pub points: usize,
     pub claims: usize,
@@ -36,7 +36,7 @@ pub struct Scan {
     pub last: Order,
 }
 
-#[derive(Drop)]
+#[derive(Clone, Copy)]
 pub enum Progress {
     Going(Scan),
     Turned(Refusal),

@@ -18,7 +18,7 @@ use stripe_tests::{bound_in_limits, names, names_either};
 
 // What is kept of the stripes that stand: all, those that do not name d, all once d has become d + up - down, or those that name neither
 // of two.
-#[derive(Drop)]
+#[derive(Clone, Copy)]
 pub enum KeptStripes {
     All,
     Without { d: u8 },
@@ -27,7 +27,7 @@ pub enum KeptStripes {
 }
 
 // What is added in front of them.
-#[derive(Drop)]
+#[derive(Clone, Copy)]
 pub enum AddedStripes {
     Nothing,
     One { s: Stripe },
@@ -35,7 +35,7 @@ pub enum AddedStripes {
 }
 
 // What an edge does to the stripes.
-#[derive(Drop)]
+#[derive(Clone, Copy)]
 pub struct Plan {
     pub kept: KeptStripes,
     pub added: AddedStripes,

@@ -1,0 +1,17 @@
+-- The first k links are those among the first i rows. Assumes nothing.
+use mathlib.Core.Path.{◌≡◌, subst}
+use Prim.Native.Nat.{ℕ, ◌≤◌, ◌-◌}
+use native.Mathlib.Omega.{arith}
+use borrow.Author.Rules.{rules}
+use Rattle.edge_links.specs.Links.{SizedLinks, Gathered}
+use Rattle.edge_links.proofs.LinkRows.{gathered_none, gathered-more}
+use Rattle.edge_links.proofs.links.gather.Goals as goal
+
+pub loop-i-init : goal.loop-i-init
+loop-i-init c = (search rules, search rules, c.requires.1.0, gathered_none c.args.links.now c.args.stripes.now)
+
+pub loop-i-preserved : goal.loop-i-preserved
+loop-i-preserved c =
+    let a = c.args in
+    let at = c.loop-i in
+    (omega arith, omega arith, c.add_row-k.ensures.0.1, gathered-more c.add_row-k.new.1.1.0 c.add_row-k.result at.links at.k a.stripes.now at.i at.invariant.3 c.add_row-k.ensures.1)

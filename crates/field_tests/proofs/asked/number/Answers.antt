@@ -1,0 +1,8 @@
+-- The limit is that of the content. Assumes nothing.
+use borrow.Author.Rules.{rules}
+use Rattle.field_tests.specs.Asked.{asked_of}
+use Rattle.field_tests.proofs.asked.number.Goals as goal
+
+pub returns : goal.returns
+unfolding asked_of
+returns c = c.number_if.ensures

@@ -1,0 +1,9 @@
+use Rattle.operations.proofs.Accesses.{Storing, store-none, store-more, store-all}
+use Rattle.std.proofs.Common.{◌-◌, arith}
+use Rattle.operations.proofs.bytes.store_bytes.Given as goal
+
+abbrev pub invariant-loop-k : goal.invariant-loop-k
+invariant-loop-k l = Storing l.initial.s l.at l.w l.x l.s l.left l.k
+
+abbrev pub decreases-loop-k : goal.decreases-loop-k
+decreases-loop-k l = l.w - l.k
