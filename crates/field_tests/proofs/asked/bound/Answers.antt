@@ -5,4 +5,4 @@ use Rattle.field_tests.proofs.asked.bound.Goals as goal
 
 pub returns : goal.returns
 unfolding asked_of
-returns c = rw c.signed_shape.ensures
+returns c f1 f5 = rw c.signed_shape.ensures

@@ -5,4 +5,4 @@ use Rattle.field_tests.proofs.asked.empty.Goals as goal
 
 pub returns : goal.returns
 unfolding asked_of
-returns c = refl
+returns c f1 f5 x = refl

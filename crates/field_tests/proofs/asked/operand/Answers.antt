@@ -6,8 +6,8 @@ use Rattle.field_tests.proofs.asked.operand.Goals as goal
 
 pub returns-then-choice-eq0 : goal.returns-then-choice-eq0
 unfolding asked_of
-returns-then-choice-eq0 c = simp (c.number_if.ensures, eq-eqb _ _ c.if-choice-eq0.true)
+returns-then-choice-eq0 c f1 s = simp (c.number_if.ensures, eq-eqb _ _ c.if-choice-eq0.true)
 
 pub returns : goal.returns
 unfolding asked_of
-returns c = simp (c.number_if-2.ensures, ne_eqb _ _ c.if-choice-eq0.false)
+returns c f1 s = simp (c.number_if-2.ensures, ne_eqb _ _ c.if-choice-eq0.false)

@@ -5,4 +5,4 @@ use Rattle.field_tests.proofs.asked.reg.Goals as goal
 
 pub returns : goal.returns
 unfolding asked_of
-returns c = c.number_if.ensures
+returns c f1 f5 s = c.number_if.ensures

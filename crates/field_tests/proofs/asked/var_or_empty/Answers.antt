@@ -6,8 +6,8 @@ use Rattle.field_tests.proofs.asked.var_or_empty.Goals as goal
 
 pub returns-then-shape-eq-BLANK : goal.returns-then-shape-eq-BLANK
 unfolding asked_of
-returns-then-shape-eq-BLANK c = simp (eq-eqb _ _ c.if-shape-eq-BLANK.true)
+returns-then-shape-eq-BLANK c f1 f5 = simp (eq-eqb _ _ c.if-shape-eq-BLANK.true)
 
 pub returns : goal.returns
 unfolding asked_of
-returns c = simp (c.number_if.ensures, ne_eqb _ _ c.if-shape-eq-BLANK.false)
+returns c f1 f5 = simp (c.number_if.ensures, ne_eqb _ _ c.if-shape-eq-BLANK.false)
