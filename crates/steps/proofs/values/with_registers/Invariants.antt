@@ -1,0 +1,10 @@
+use Rattle.std.proofs.Common.{◌≡◌, ◌-◌, length, arith, rules}
+use Rattle.steps.proofs.FilledArrays.{Copied, copied_none, copied_more, copied-front}
+use Rattle.model.specs.Limits as Limits
+use Rattle.steps.proofs.values.with_registers.Given as goal
+
+abbrev pub invariant-loop-i : goal.invariant-loop-i
+invariant-loop-i l = Copied l.registers l.values Limits.variables l.i
+
+abbrev pub decreases-loop-i : goal.decreases-loop-i
+decreases-loop-i l = Limits.registers - l.i
