@@ -25,13 +25,13 @@ Holds Sign v = v ≡ 0
 Holds Signed v = 0 < v
 Holds Wrong v = ⊥
 
-is_digit : (d : ℕ) → d < 10 → is_digit (48 + d) ≡ true
+is_digit-of : (d : ℕ) → d < 10 → is_digit (48 + d) ≡ true
 unfolding is_digit
-is_digit d h = simp (le-leb 48 (48 + d) (omega arith), le-leb (48 + d) 57 (omega arith))
+is_digit-of d h = simp (le-leb 48 (48 + d) (omega arith), le-leb (48 + d) 57 (omega arith))
 
 digit-of : (d : ℕ) → d < 10 → digit_of (48 + d) ≡ d
 unfolding digit_of
-digit-of d h = simp (is_digit d h) (omega arith)
+digit-of d h = simp (is_digit-of d h) (omega arith)
 
 -- ---- one column: the reader's step undoes the writer's
 abbrev Undone : Shape → ℕ → Shape → Type 0
@@ -43,13 +43,13 @@ undone Spaces v h = (refl, omega arith)
 undone Zero v h = (refl, omega arith)
 undone Digits v h =
     cond_cases (Undone Digits v) (ltb v 10) Spaces Digits
-    (λ e. let l : v < 10 = ltb-true v 10 e in (simp (ne_eqb (48 + v % 10) 32 (λ q. omega arith), ne_eqb (48 + v % 10) 45 (λ q. omega arith), ne_eqb (48 + v % 10) 48 (λ q. omega arith), is_digit (v % 10) (omega arith)), omega arith))
-    (λ e. (simp (is_digit (v % 10) (omega arith)), omega (arith, ltb-false v 10 e)))
+    (λ e. let l : v < 10 = ltb-true v 10 e in (simp (ne_eqb (48 + v % 10) 32 (λ q. omega arith), ne_eqb (48 + v % 10) 45 (λ q. omega arith), ne_eqb (48 + v % 10) 48 (λ q. omega arith), is_digit-of (v % 10) (omega arith)), omega arith))
+    (λ e. (simp (is_digit-of (v % 10) (omega arith)), omega (arith, ltb-false v 10 e)))
 undone Sign v h = (refl, omega arith)
 undone Signed v h =
     cond_cases (Undone Signed v) (ltb v 10) Sign Signed
-    (λ e. let l : v < 10 = ltb-true v 10 e in (simp (ne_eqb (48 + v % 10) 48 (λ q. omega arith), is_digit (v % 10) (omega arith)), omega arith))
-    (λ e. (simp (is_digit (v % 10) (omega arith)), omega (arith, ltb-false v 10 e)))
+    (λ e. let l : v < 10 = ltb-true v 10 e in (simp (ne_eqb (48 + v % 10) 48 (λ q. omega arith), is_digit-of (v % 10) (omega arith)), omega arith))
+    (λ e. (simp (is_digit-of (v % 10) (omega arith)), omega (arith, ltb-false v 10 e)))
 undone Wrong v h = absurd h
 
 number-undone : (f : Shape) (v : ℕ) → Holds f v → v / 10 * 10 + digit_of (last_byte f v) ≡ v
