@@ -7,7 +7,6 @@ use mathlib.Core.List.{List, [], ◌∷◌, map}
 use lib.ListN.{get_or}
 use lib.Dec.{eqb}
 use borrow.Author.Tests.{eqb-true, eqb-false, eq-eqb, ne_eqb}
-use types.Run.{OneOf}
 use Rattle.model.specs.declared.text.Field.{Field}
 use Rattle.model.specs.declared.text.Field.TheVariants.{Blank, Number, Negative, Misshapen}
 use Rattle.model.specs.declared.text.Kind.{Kind}
@@ -30,7 +29,7 @@ use Rattle.field_tests.specs.declared.asked.Asked.{Asked}
 use Rattle.field_tests.specs.declared.asked.AskedRow.{AskedRow}
 use Rattle.field_tests.specs.Asked.{ask, asked_of, row, row_judged}
 use Rattle.word_table.proofs.KeptNumbers.{unsigned, unsigned-kinds, field-shaped, number-kept}
-use Rattle.word_table.proofs.SharedByWords.{place_of, shared}
+use Rattle.word_table.proofs.SharedByWords.{Among, shared}
 
 -- tests that agree on every number below n
 below-same : (p q : ℕ → Bool) (n : ℕ) → ((j : ℕ) → j < n → p j ≡ q j) → every_below p n ≡ every_below q n
@@ -184,7 +183,7 @@ module _ (w : Word) (fs : List Field) where
       go false e = rw (due, asks-in-shape, e)
 
 -- the same of the row of u, which the words us share: what is asked of each field in its place. Only F6 is asked by another field, and only F4 and F6 by their own shape
-module _ (place : ℕ) (fs : List Field) (u : Word) (us : List Word) (same : map fields_of (u ∷ us) ≡ map (λ (v : Word). fields_of u) (u ∷ us)) (w : Word) (one_of_lem : OneOf (map place_of (u ∷ us)) (place_of w)) where
+module _ (place : ℕ) (fs : List Field) (u : Word) (us : List Word) (same : map fields_of (u ∷ us) ≡ map (λ (v : Word). fields_of u) (u ∷ us)) (w : Word) (among : Among (u ∷ us) w) where
   -- what is asked of the fields kept in x, and how the row is judged
   pub record Row (x : KeptFields) (a b c d e f : Asked) (r : AskedRow) (j : Judgement) (differ : Bool) : Type 0 where
     pub first : (f1 f5 s : ℕ) → a ≡ asked_of (kind_at u 0) f1 f5 (side_by_side s x.first)
@@ -197,7 +196,7 @@ module _ (place : ℕ) (fs : List Field) (u : Word) (us : List Word) (same : map
     pub answer : j ≡ row_judged place x.shapes r differ
 
   kinds : (j : ℕ) (x : KeptField) → asked_of (kind_at u j) (kept_at fs 0).number (kept_at fs 4).number x ≡ asked_of (kind_at w j) (kept_at fs 0).number (kept_at fs 4).number x
-  kinds j x = ap (λ (l : List Kind). asked_of (get_or l j Empty) (kept_at fs 0).number (kept_at fs 4).number x) (sym (shared fields_of (fields_of u) (u ∷ us) same w one_of_lem))
+  kinds j x = ap (λ (l : List Kind). asked_of (get_or l j Empty) (kept_at fs 0).number (kept_at fs 4).number x) (sym (shared fields_of (fields_of u) (u ∷ us) same w among))
 
   of-kept : (a b c d e f : Asked) (r : AskedRow) (j : Judgement) (differ : Bool) → (in_shape w fs ≡ true → differ ≡ registers_differ w fs) → Row (kept_fields fs) a b c d e f r j differ → j ≡ judged today place (Known w) fs
   unfolding kept_fields
@@ -221,15 +220,15 @@ module _ (place : ℕ) (fs : List Field) (u : Word) (us : List Word) (same : map
       of-kept a b c d e f r j differ told (subst (λ (y : KeptFields). Row y a b c d e f r j differ) k h)
 
 -- of all words but DIVM nothing is asked of their registers
-pub none-written-twice : (u : Word) (us : List Word) (fs : List Field) → map (λ (v : Word). registers_differ v fs) (u ∷ us) ≡ map (λ (v : Word). true) (u ∷ us) → (w : Word) → OneOf (map place_of (u ∷ us)) (place_of w) → true ≡ registers_differ w fs
-none-written-twice u us fs same w one_of_lem = sym (shared (λ (v : Word). registers_differ v fs) true (u ∷ us) same w one_of_lem)
+pub none-written-twice : (u : Word) (us : List Word) (fs : List Field) → map (λ (v : Word). registers_differ v fs) (u ∷ us) ≡ map (λ (v : Word). true) (u ∷ us) → (w : Word) → Among (u ∷ us) w → true ≡ registers_differ w fs
+none-written-twice u us fs same w among = sym (shared (λ (v : Word). registers_differ v fs) true (u ∷ us) same w among)
 
 -- DIVM's registers are told apart by the numbers that are kept of them
-pub registers-kept : (fs : List Field) (w : Word) → OneOf (map place_of (Divm ∷ [])) (place_of w) → (x : KeptFields) → x ≡ kept_fields fs → in_shape w fs ≡ true → not (eqb x.first x.third) ≡ registers_differ w fs
+pub registers-kept : (fs : List Field) (w : Word) → Among (Divm ∷ []) w → (x : KeptFields) → x ≡ kept_fields fs → in_shape w fs ≡ true → not (eqb x.first x.third) ≡ registers_differ w fs
 unfolding registers_differ kept_fields
-registers-kept fs w one_of_lem x k e =
+registers-kept fs w among x k e =
     rw (
-      shared (λ (v : Word). registers_differ v fs) (not (eqb (F1 fs) (F3 fs))) (Divm ∷ []) refl w one_of_lem,
+      shared (λ (v : Word). registers_differ v fs) (not (eqb (F1 fs) (F3 fs))) (Divm ∷ []) refl w among,
       k,
       number-kept w fs e 0 (omega arith),
       number-kept w fs e 2 (omega arith),
