@@ -1,0 +1,11 @@
+-- Each field is read at its columns. Assumes nothing.
+use Rattle.std.proofs.Common.{◌∙◌, arith, rules}
+use Rattle.model.specs.Lines.{width_of, fields_in}
+use Rattle.columns.proofs.KeptShapes.{six-kept}
+use Rattle.lines.proofs.line.read_fields.Goals as goal
+
+pub returns : goal.returns
+unfolding fields_in width_of
+returns c =
+    c.six.ensures
+    ∙ six-kept (fields_in c.args.l.now) c.read_short-a.ensures c.read_short-b.ensures c.read_short-c.ensures c.read_short-d.ensures c.read_short-e.ensures c.read_long-f.ensures
