@@ -13,11 +13,8 @@ use Rattle.model.specs.Limits as Limits
 use Rattle.model.specs.Lists.{every_below}
 use Rattle.model.specs.Facts.{lo, hi, non_empty}
 use Rattle.facts.proofs.ArrayContents.{low_held, high_held}
+use Rattle.domain.proofs.is_possible.Invariants.{has_value}
 use Rattle.domain.proofs.is_possible.Goals as goal
-
--- the range of a variable has a value
-abbrev has_value : List ℕ → List ℕ → ℕ → Bool
-has_value low high v = leb (lo (ranges_of low high) v) (hi (ranges_of low high) v)
 
 pub loop-v-init : goal.loop-v-init
 unfolding every_below

@@ -15,6 +15,10 @@ use Rattle.model.specs.Facts.{lo, hi, non_empty}
 use Rattle.facts.proofs.ArrayContents.{low_held, high_held}
 use Rattle.domain.proofs.is_possible.Given as goal
 
+-- the range of a variable has a value
+abbrev pub has_value : List ℕ → List ℕ → ℕ → Bool
+has_value low high v = leb (lo (ranges_of low high) v) (hi (ranges_of low high) v)
+
 abbrev pub invariant-loop-v : goal.invariant-loop-v
 invariant-loop-v l = (l.v ≤ Limits.variables) × (l.every ≡ every_below (has_value l.low l.high) l.v)
 

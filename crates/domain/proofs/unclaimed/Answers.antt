@@ -30,4 +30,6 @@ laid = (
 )
 
 pub returns : goal.returns
-returns c = subst₂ Laid (sym c.unclaimed-register.ensures) (sym c.unclaimed-size.ensures) laid
+returns c =
+    let told = subst₂ Laid (sym c.unclaimed-register.ensures) (sym c.unclaimed-size.ensures) laid in
+    record { high_after = told.0; ends = told.1 }
