@@ -1,0 +1,11 @@
+-- The word of four bytes is the one that the reader finds. Assumes nothing.
+use Rattle.writer.proofs.LineJudged.{word_none, word-four}
+use native.Mathlib.Omega.{arith}
+use mathlib.Core.Path.{◌∙◌}
+use Rattle.writer.proofs.word_of.Goals as goal
+
+pub returns-then-t-ne4 : goal.returns-then-t-ne4
+returns-then-t-ne4 c = word_none _ (λ h. c.if-t-ne4.true h)
+
+pub returns : goal.returns
+returns c = c.find_word.ensures ∙ word-four _ c.if-t-ne4.false
