@@ -5,9 +5,12 @@ use borrow.Author.Rules.{rules}
 use Rattle.writer.proofs.set_line.Goals as goal
 
 pub returns-in-Unknown : goal.returns-in-Unknown
-returns-in-Unknown c = unknown _ _ _ _ (sym c.word_of.ensures ∙ c.in-Unknown.is)
+returns-in-Unknown c =
+    let e = sym c.word_of.ensures ∙ c.in-Unknown.is in
+    record { value = (unknown _ _ _ _ e).0; listing_after = (unknown _ _ _ _ e).1 }
 
 pub returns-in-Known : goal.returns-in-Known
 returns-in-Known c =
     let e = sym c.word_of.ensures ∙ c.in-Known.is in
-    known _ _ _ _ _ e _ c.before.before.set_Known.ensures.0 _ c.before.before.set_Known.ensures.1
+    let told = c.set_known.ensures in
+    record { value = (known _ _ _ _ _ e _ told.value _ told.s_after).0; listing_after = (known _ _ _ _ _ e _ told.value _ told.s_after).1 }

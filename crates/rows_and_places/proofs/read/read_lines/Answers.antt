@@ -8,6 +8,7 @@ use lib.ListN.{length, length-take, length-drop}
 use Rattle.model.specs.Limits.{today}
 use Rattle.model.specs.Listing.{read_to}
 use Rattle.line_rows.proofs.WrittenRows.{row-long}
+use Rattle.scan.specs.declared.Progress.TheVariants.{Turned}
 use Rattle.scan.specs.Scan.{progress_of}
 use Rattle.rows_and_places.specs.Read.{ScannedSo}
 use Rattle.rows_and_places.proofs.RowsAndPlaces.{scanned-none, within, progress-next, lines_next, turned-back, line_read_lem}
@@ -30,8 +31,9 @@ returns-in-Turned c =
     let l = c.loop-k in
     let t = c.loop-k-test.true in
     let line = line_read_lem _ _ _ c.read_bytes-x.ensures in
-    turned-back c.args.listing.now _ _ (suc l.k) _ _ (omega arith)
-    (rw (progress-next, ← line.sort, ← l.invariant.4, ← c.after-q.ensures) c.in-Turned.is)
+    let e : progress_of (read_to today c.args.listing.now (suc l.k)) ≡ Turned c.in-Turned.r = rw (progress-next, ← line.sort, ← l.invariant.4, ← c.after-q.ensures) c.in-Turned.is in
+    let told = turned-back c.args.listing.now l.rows l.at (suc l.k) c.args.n c.in-Turned.r (omega arith) e in
+    record { value = told.0; scanned_so = told.1 }
 
 pub note-requires : goal.note-requires
 note-requires c =
