@@ -1,4 +1,3 @@
-use borrow.Author.Rules.{rules}
 use Rattle.checker.proofs.Verdicts.{check-refused, check-passed}
 use Rattle.checker.proofs.check_in.Goals as goal
 

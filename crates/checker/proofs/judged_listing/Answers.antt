@@ -1,5 +1,4 @@
-use borrow.Author.Rules.{rules}
-use Rattle.checker.proofs.Verdicts.{is_read, judged-refused_listing, judged-read}
+use Rattle.checker.proofs.Verdicts.{judged-read}
 use Rattle.checker.proofs.judged_listing.Goals as goal
 
 pub returns-in-Accepted : goal.returns-in-Accepted

@@ -1,7 +1,6 @@
 use Prim.Native.Nat.{ℕ, ◌+◌, ◌-◌}
 use mathlib.Core.Path.{◌≡◌}
 use native.Mathlib.Omega.{arith}
-use borrow.Author.Rules.{rules}
 use Rattle.claim_parts.proofs.Parts.{lies-inside, holds-lines}
 use Rattle.claim_parts.proofs.claim_lines.Goals as goal
 

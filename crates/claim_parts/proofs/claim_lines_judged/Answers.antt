@@ -1,4 +1,3 @@
-use borrow.Author.Rules.{rules}
 use Rattle.claim_parts.proofs.Parts.{is-judged}
 use Rattle.claim_parts.proofs.claim_lines_judged.Goals as goal
 

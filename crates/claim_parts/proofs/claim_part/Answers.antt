@@ -1,7 +1,5 @@
 -- The part of a listing that is read, or none. Assumes nothing.
-use Rattle.model.specs.Listing.{listing_of}
-use Rattle.claim_parts.proofs.Parts.{none-refused, none-past, point-placed, part-read}
-use borrow.Author.Rules.{rules}
+use Rattle.claim_parts.proofs.Parts.{none-refused, none-past, part-read}
 use Rattle.claim_parts.proofs.claim_part.Goals as goal
 
 pub returns-then-point-l : goal.returns-then-point-l

@@ -1,6 +1,5 @@
 -- The offset and the length by the numbers of the place. Assumes nothing.
 use Rattle.claim_parts.proofs.Parts.{part_at}
-use borrow.Author.Rules.{rules}
 use Rattle.claim_parts.proofs.part_of.Goals as goal
 
 pub returns : goal.returns

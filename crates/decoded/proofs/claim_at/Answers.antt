@@ -1,6 +1,5 @@
 -- Each kind of claim by its own test. Assumes nothing.
 use borrow.Author.Tests.{eq-eqb, ne_eqb}
-use borrow.Author.Rules.{rules}
 use Rattle.decoded.specs.Decoded.{claim_from}
 use Rattle.decoded.proofs.claim_at.Goals as goal
 

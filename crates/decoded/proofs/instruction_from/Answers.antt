@@ -1,5 +1,4 @@
 use borrow.Author.Tests.{eq-eqb, ne_eqb}
-use borrow.Author.Rules.{rules}
 use Rattle.decoded.specs.Decoded.{instruction_from}
 use Rattle.decoded.proofs.instruction_from.Goals as goal
 

@@ -1,17 +1,12 @@
 -- After v turns it is the test of the first v variables. Assumes nothing.
-use borrow.Author.Rules.{rules}
 use mathlib.Core.Path.{◌≡◌, refl, ap, sym, ◌∙◌}
-use mathlib.Core.Bool.{Bool}
-use mathlib.Core.List.{List}
-use lib.Dec.{leb}
-use Rattle.facts.specs.Known.{ranges_of}
-use Prim.Native.Nat.{ℕ, ◌-◌, ◌≤◌}
+use Prim.Native.Nat.{◌-◌}
 use native.Mathlib.Numerals.{add-one}
 use native.Mathlib.Omega.{arith}
 use lib.ListN.{length}
 use Rattle.model.specs.Limits as Limits
 use Rattle.model.specs.Lists.{every_below}
-use Rattle.model.specs.Facts.{lo, hi, non_empty}
+use Rattle.model.specs.Facts.{non_empty}
 use Rattle.facts.proofs.ArrayContents.{low_held, high_held}
 use Rattle.domain.proofs.is_possible.Invariants.{has_value}
 use Rattle.domain.proofs.is_possible.Goals as goal

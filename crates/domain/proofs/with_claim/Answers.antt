@@ -1,8 +1,7 @@
 -- A claim replaces an end or adds a stripe, and both stay within the bounds of a point. Assumes nothing.
-use borrow.Author.Rules.{rules}
 use native.Mathlib.Omega.{arith}
 use Rattle.facts.proofs.ArrayContents.{low-set, high-set, stripes-written}
-use Rattle.facts.proofs.PointArrays.{unclaimed-top, ends-even, standing-sized, point-low, point-high, point-row}
+use Rattle.facts.proofs.PointArrays.{ends-even, standing-sized}
 use Rattle.domain.proofs.with_claim.Goals as goal
 
 pub returns-in-Leas-clause-result_after : goal.returns-in-Leas-clause-result_after

@@ -1,5 +1,4 @@
 -- Both changes are those of the definition. Assumes nothing.
-use borrow.Author.Rules.{rules}
 use Rattle.model.specs.Transfer.{overlap}
 use Rattle.edge_ranges.proofs.BranchRanges.{changed-twice}
 use Rattle.edge_ranges.proofs.equal_ranges.Goals as goal

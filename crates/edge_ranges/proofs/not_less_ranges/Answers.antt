@@ -1,5 +1,4 @@
 -- Both changes are those of the definition. Assumes nothing.
-use borrow.Author.Rules.{rules}
 use Rattle.model.specs.declared.claims.Range.{Range}
 use Rattle.model.specs.Transfer.{at_least, at_most}
 use Rattle.edge_ranges.proofs.BranchRanges.{changed-twice}

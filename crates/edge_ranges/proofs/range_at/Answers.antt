@@ -1,5 +1,4 @@
 -- The two ends are those of the range. Assumes nothing.
-use borrow.Author.Rules.{rules}
 use mathlib.Core.Path.{sym, subst, ◌∙◌}
 use native.Mathlib.Omega.{arith}
 use Rattle.facts.specs.Known.{Word}
@@ -9,8 +8,7 @@ use Rattle.edge_ranges.proofs.range_at.Goals as goal
 
 pub returns : goal.returns
 returns c =
-    let a = c.args in
-    (
+    let a = c.args in (
       c.between.ensures ∙ sym (range-held a.low.now a.high.now a.v (ends-even a.low.now a.high.now c.requires.ends)),
       subst Word (sym c.between.ensures) (record { low = c.requires.ends.lows.most a.v (omega arith); high = c.requires.ends.highs.most a.v (omega arith) }),
     )

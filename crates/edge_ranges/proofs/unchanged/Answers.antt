@@ -1,5 +1,4 @@
 -- A range set to what it is changes nothing. Assumes nothing.
-use borrow.Author.Rules.{rules}
 use mathlib.Core.Path.{ap, subst, ◌∙◌}
 use mathlib.Core.List.{List}
 use lib.ListN.{set}

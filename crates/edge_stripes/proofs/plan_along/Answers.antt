@@ -1,8 +1,6 @@
 -- Each arm is the clause of the definition for its instruction. Assumes nothing.
-use borrow.Author.Rules.{rules}
 use mathlib.Core.Path.{◌∙◌}
 use mathlib.Core.List.{List}
-use native.Mathlib.Omega.{arith}
 use Rattle.model.specs.declared.claims.Range.{Range}
 use Rattle.model.specs.Transfer.{stripes_along}
 use Rattle.facts.specs.Known.{ranges_of}

@@ -1,5 +1,4 @@
 -- Each number stands in its place. Assumes nothing.
-use borrow.Author.Rules.{rules}
 use Rattle.encoded.proofs.KeptRows.{row_kept}
 use Rattle.encoded.proofs.row_of.Goals as goal
 

@@ -1,7 +1,6 @@
 use mathlib.Core.Path.{sym, ◌∙◌}
 use Rattle.line_rows.specs.Rows.{row_at}
 use Rattle.decoded.proofs.RowInstructions.{stop-row, setc-row, copy-row, arithmetic-row}
-use borrow.Author.Rules.{rules}
 use Rattle.fetch.proofs.instruction_at.Goals as goal
 
 pub returns-then-kind-eq-STOP : goal.returns-then-kind-eq-STOP

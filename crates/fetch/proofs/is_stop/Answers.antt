@@ -1,6 +1,5 @@
 use mathlib.Core.Path.{sym}
 use Rattle.decoded.proofs.RowInstructions.{stop-kind}
-use borrow.Author.Rules.{rules}
 use Rattle.fetch.proofs.is_stop.Goals as goal
 
 pub returns : goal.returns

@@ -1,15 +1,9 @@
 -- The loop's invariant: so far there are digits, and they give the number. Fourteen of them leave room for one more. Assumes nothing.
-use Prim.Native.Nat.{◌≤◌, ◌<◌, ◌-◌, ◌^◌}
-use native.Mathlib.Omega.{arith}
-use mathlib.Core.Path.{◌≡◌, sym, ap, ◌∙◌}
+use Prim.Native.Nat.{◌≤◌, ◌-◌}
+use mathlib.Core.Path.{◌≡◌}
 use mathlib.Core.Bool.{cond}
-use borrow.Author.Rules.{rules}
 use Rattle.model.specs.declared.text.Shape.TheVariants.{Digits, Signed}
 use Rattle.model.specs.Text.{shape_of, digits_of}
-use Rattle.model.proofs.Digits.{digit-below, digits-fit}
-use Rattle.columns.specs.Kept.{kept_signed}
-use Rattle.columns.proofs.KeptShapes.{signed-number}
-use Rattle.columns.proofs.Shapes.{digit-more, digits-broken, digits_last, number_more}
 use Rattle.long_field.proofs.gather_long.Given as goal
 
 abbrev pub invariant-loop-j : goal.invariant-loop-j

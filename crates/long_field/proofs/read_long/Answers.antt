@@ -1,10 +1,7 @@
 -- The columns are blank, or hold something from the first that is no space. Assumes nothing.
-use Prim.Native.Nat.{◌<◌}
-use native.Mathlib.Omega.{arith}
 use mathlib.Core.Path.{sym, ap}
 use Rattle.columns.specs.Kept.{kept_signed}
 use Rattle.columns.proofs.Shapes.{blank}
-use borrow.Author.Rules.{rules}
 use Rattle.long_field.proofs.read_long.Goals as goal
 
 pub returns-then-i-eq15 : goal.returns-then-i-eq15

@@ -4,7 +4,6 @@ use native.Mathlib.Omega.{arith}
 use mathlib.Core.Path.{sym, ap, ◌∙◌}
 use Rattle.columns.specs.Kept.{kept_signed}
 use Rattle.columns.proofs.Shapes.{leading-digit, sign-last, sign-digit, sign-other, number-first}
-use borrow.Author.Rules.{rules}
 use Rattle.long_field.proofs.read_negative.Goals as goal
 
 pub returns-then-i-n : goal.returns-then-i-n

@@ -1,10 +1,8 @@
 -- Each byte after the spaces decides its law of the shapes. Assumes nothing.
-use native.Mathlib.Omega.{arith}
 use mathlib.Core.Path.{refl, sym, ap, ◌∙◌}
 use Rattle.columns.specs.Kept.{kept_signed}
 use Rattle.columns.proofs.KeptShapes.{zero-kept}
 use Rattle.columns.proofs.Shapes.{leading-digit, minus-first, digit-first, other-first, number-first}
-use borrow.Author.Rules.{rules}
 use Rattle.long_field.proofs.read_signed.Goals as goal
 
 pub digit-requires : goal.digit-requires

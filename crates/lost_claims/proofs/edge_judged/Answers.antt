@@ -1,10 +1,8 @@
 -- The edge is impossible, or its first lost claim tells. Assumes nothing.
-use mathlib.Core.Path.{refl, sym, ◌∙◌}
-use native.Mathlib.Omega.{arith}
+use mathlib.Core.Path.{sym, ◌∙◌}
 use borrow.Author.Tests.{not-true, not-false}
 use Rattle.facts.proofs.PointArrays.{edge-sized, known-laid}
 use Rattle.lost_claims.proofs.LostClaims.{edge_none, edge_kept, edge-refused, edge-impossible}
-use borrow.Author.Rules.{rules}
 use Rattle.lost_claims.proofs.edge_judged.Goals as goal
 
 pub returns-then-n-eq0-clause-value : goal.returns-then-n-eq0-clause-value

@@ -1,13 +1,9 @@
 -- Every claim before the j-th follows. Assumes nothing.
-use Prim.Native.Nat.{◌+◌, ◌-◌, ◌≤◌}
+use Prim.Native.Nat.{◌-◌}
 use mathlib.Core.Path.{◌≡◌, sym, ◌∙◌}
 use native.Mathlib.Omega.{arith}
 use native.Mathlib.Numerals.{add-one}
 use borrow.Author.Tests.{not-true, not-false}
-use Rattle.model.specs.Facts.{Facts}
-use Rattle.model.specs.Follows.{first_lost}
-use Rattle.facts.specs.Laid.{Laid}
-use Rattle.decoded.specs.Decoded.{claims_from}
 use Rattle.lost_claims.proofs.LostClaims.{lost-none, lost-kept, lost-first}
 use Rattle.lost_claims.proofs.lost_among.Goals as goal
 
@@ -21,7 +17,7 @@ pub claim_at-c-requires : goal.claim_at-c-requires
 claim_at-c-requires c = let long = c.requires.claim_rows.0.long in omega arith
 
 pub claim_follows-requires : goal.claim_follows-requires
-claim_follows-requires c = record { sized = c.requires.sized; claim_limited = rw c.claim_at-c.ensures (c.requires.claim_rows.0.limited c.loop-j.j c.loop-j-test.true); }
+claim_follows-requires c = record { sized = c.requires.sized; claim_limited = rw c.claim_at-c.ensures (c.requires.claim_rows.0.limited c.loop-j.j c.loop-j-test.true) }
 
 pub overflow_add-result : goal.overflow_add-result
 overflow_add-result c = let room = c.requires.claim_rows.1 in let t = c.loop-j-test.true in omega arith

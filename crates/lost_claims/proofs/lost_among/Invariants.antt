@@ -1,14 +1,10 @@
 -- Every claim before the j-th follows. Assumes nothing.
 use Prim.Native.Nat.{◌+◌, ◌-◌, ◌≤◌}
-use mathlib.Core.Path.{◌≡◌, sym, ◌∙◌}
-use native.Mathlib.Omega.{arith}
-use native.Mathlib.Numerals.{add-one}
-use borrow.Author.Tests.{not-true, not-false}
+use mathlib.Core.Path.{◌≡◌}
 use Rattle.model.specs.Facts.{Facts}
 use Rattle.model.specs.Follows.{first_lost}
 use Rattle.facts.specs.Laid.{Laid}
 use Rattle.decoded.specs.Decoded.{claims_from}
-use Rattle.lost_claims.proofs.LostClaims.{lost-none, lost-kept, lost-first}
 use Rattle.lost_claims.proofs.lost_among.Given as goal
 
 abbrev pub invariant-loop-j : goal.invariant-loop-j

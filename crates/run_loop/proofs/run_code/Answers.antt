@@ -1,18 +1,16 @@
 -- So many steps are made and led to this point, these values and these bytes. Assumes nothing.
-use Prim.Native.Nat.{ℕ, ◌-◌}
-use mathlib.Core.List.{List}
+use Prim.Native.Nat.{◌-◌}
 use mathlib.Core.Path.{◌≡◌, sym, ap, ◌∙◌}
 use native.Mathlib.Omega.{arith}
-use lib.ListN.{length, get_or}
+use lib.ListN.{length}
 use borrow.Author.Rules.{rules}
 use Rattle.model.specs.Limits as Limits
 use Rattle.model.specs.Listing.{listing_of, points_of}
 use Rattle.model.specs.Machine.{lent, sizes_of, values_from}
-use Rattle.steps.specs.Stepped.{config}
 use Rattle.steps.proofs.InstructionSteps.{stepped-as}
 use Rattle.state_tests.specs.States.{state}
 use Rattle.state_tests.proofs.StateJudged.{met}
-use Rattle.run_loop.proofs.RunLoop.{passes, Going, steppable, stopped-here, paused-here, goes_on, start_is, at-start, lent-bytes, ran_to}
+use Rattle.run_loop.proofs.RunLoop.{passes, steppable, stopped-here, paused-here, goes_on, start_is, at-start, lent-bytes, ran_to}
 use Rattle.run_loop.proofs.run_code.Goals as goal
 
 pub words-requires : goal.words-requires

@@ -6,8 +6,6 @@ use lib.ListN.{length}
 use Rattle.model.specs.Limits.{greatest_points}
 use Rattle.line_rows.proofs.WrittenRows.{row-long}
 use Rattle.decoded.specs.Decoded.{instruction_from}
-use Rattle.rows_and_places.specs.Points.{points_in}
-use Rattle.run_loop.specs.Runs.{Coded}
 use Rattle.runner.proofs.GatheredRows.{none-gathered, one-gathered}
 use Rattle.runner.proofs.gather.Goals as goal
 

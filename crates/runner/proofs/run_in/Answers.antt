@@ -1,11 +1,9 @@
 -- Where the listing passes, the points that are held are the listing's. Assumes nothing.
-use mathlib.Core.Path.{sym, ap, ◌∙◌}
-use Rattle.model.specs.Listing.{points_of}
+use mathlib.Core.Path.{sym, ◌∙◌}
 use Rattle.model.specs.Machine.{lent}
 use Rattle.state_tests.specs.States.{state}
 use Rattle.run_loop.proofs.RunLoop.{listing-refused}
 use Rattle.runner.proofs.PointCount.{code-room}
-use borrow.Author.Rules.{rules}
 use Rattle.runner.proofs.run_in.Goals as goal
 
 pub gather-requires-clause-n_in_bounds : goal.gather-requires-clause-n_in_bounds

@@ -3,7 +3,6 @@ use mathlib.Core.Path.{sym, ◌∙◌}
 use Rattle.model.specs.Machine.{lent}
 use Rattle.state_tests.specs.States.{state}
 use Rattle.run_loop.proofs.RunLoop.{state-refused}
-use borrow.Author.Rules.{rules}
 use Rattle.runner.proofs.run_judged.Goals as goal
 
 pub returns-in-Refused : goal.returns-in-Refused

@@ -1,6 +1,4 @@
 -- The low end of a variable, or the number itself. Assumes nothing.
-use native.Mathlib.Omega.{arith}
-use borrow.Author.Rules.{rules}
 use Rattle.facts.proofs.ArrayContents.{low_held}
 use Rattle.facts.proofs.PointArrays.{ends-even}
 use Rattle.safety.proofs.divisor_safe.Goals as goal

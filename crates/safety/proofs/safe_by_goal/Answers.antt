@@ -1,9 +1,7 @@
 -- The arrays hold what is known at the point. Assumes nothing.
 use mathlib.Core.Path.{◌∙◌}
-use native.Mathlib.Omega.{arith}
-use borrow.Author.Rules.{rules}
 use Rattle.facts.specs.Known.{known}
-use Rattle.facts.proofs.PointArrays.{ends-even, point-sized, known-laid}
+use Rattle.facts.proofs.PointArrays.{ends-even, known-laid}
 use Rattle.safety.proofs.AccessNumbers.{access-goal}
 use Rattle.safety.proofs.safe_by_goal.Goals as goal
 

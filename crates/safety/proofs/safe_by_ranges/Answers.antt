@@ -1,10 +1,8 @@
 -- The access with the high end of its variable ends far below what 64 bits hold. Assumes nothing.
-use native.Mathlib.Omega.{arith}
-use borrow.Author.Rules.{rules}
 use Rattle.facts.specs.Known.{ranges_of}
 use Rattle.facts.proofs.ArrayContents.{low_held, high_held}
 use Rattle.facts.proofs.PointArrays.{ends-even}
-use Rattle.safety.proofs.AccessNumbers.{access-end, access-ranges}
+use Rattle.safety.proofs.AccessNumbers.{access-ranges}
 use Rattle.safety.proofs.safe_by_ranges.Goals as goal
 
 pub returns : goal.returns

@@ -1,8 +1,5 @@
 -- Each instruction by its own test. Assumes nothing.
-use mathlib.Core.Path.{subst}
 use Rattle.model.specs.Check.{safety_judged}
-use Rattle.model.specs.Limited.{Limited}
-use borrow.Author.Rules.{rules}
 use Rattle.safety.proofs.safety_judged.Goals as goal
 
 pub returns-in-Stop : goal.returns-in-Stop

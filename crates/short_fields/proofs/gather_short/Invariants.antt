@@ -1,14 +1,8 @@
 -- The loop's invariant: so far there are digits, and they give the number. Three of them leave room for one more in 16 bits. Assumes nothing.
-use Prim.Native.Nat.{◌≤◌, ◌<◌, ◌-◌, ◌^◌}
-use native.Mathlib.Omega.{arith}
-use mathlib.Core.Path.{◌≡◌, sym, ap, ◌∙◌}
-use mathlib.Core.Bool.{false}
-use borrow.Author.Rules.{rules}
+use Prim.Native.Nat.{◌≤◌, ◌-◌}
+use mathlib.Core.Path.{◌≡◌}
 use Rattle.model.specs.declared.text.Shape.TheVariants.{Digits}
 use Rattle.model.specs.Text.{shape_of, digits_of}
-use Rattle.model.proofs.Digits.{digit-below, digits-fit}
-use Rattle.columns.specs.Kept.{kept_plain}
-use Rattle.columns.proofs.Shapes.{digit-more, digits-broken, digits_last, number_more}
 use Rattle.short_fields.proofs.gather_short.Given as goal
 
 abbrev pub invariant-loop-j : goal.invariant-loop-j

@@ -1,10 +1,8 @@
 -- Each byte after the spaces decides its law of the shapes. Assumes nothing.
-use native.Mathlib.Omega.{arith}
 use mathlib.Core.Path.{refl, sym, ◌∙◌}
 use Rattle.columns.specs.Kept.{kept_plain}
 use Rattle.columns.proofs.KeptShapes.{not_plain, zero-kept}
 use Rattle.columns.proofs.Shapes.{leading-digit, digit-first, number-first}
-use borrow.Author.Rules.{rules}
 use Rattle.short_fields.proofs.read_plain.Goals as goal
 
 pub digit-requires : goal.digit-requires

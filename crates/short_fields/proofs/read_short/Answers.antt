@@ -1,11 +1,9 @@
 -- The columns are blank, or hold something from the first that is no space. Assumes nothing.
-use Prim.Native.Nat.{◌<◌}
 use native.Mathlib.Omega.{arith}
 use mathlib.Core.Path.{refl, sym, ap}
 use Rattle.model.specs.Text.{shape_of, digits_of}
 use Rattle.columns.specs.Kept.{kept_plain}
 use Rattle.columns.proofs.Shapes.{blank}
-use borrow.Author.Rules.{rules}
 use Rattle.short_fields.proofs.read_short.Goals as goal
 
 pub four_more-requires : goal.four_more-requires

@@ -1,11 +1,10 @@
 -- Each test in the model's order. Assumes nothing.
 use mathlib.Core.Bool.{true, false}
 use mathlib.Core.Path.{ap, sym, ◌∙◌}
-use borrow.Author.Tests.{not-true, not-false}
+use borrow.Author.Tests.{not-false}
 use Rattle.model.specs.Machine.{values_from}
 use Rattle.state_tests.specs.States.{state}
-use Rattle.state_tests.proofs.StateJudged.{tables-long, point-past, claims-tested}
-use borrow.Author.Rules.{rules}
+use Rattle.state_tests.proofs.StateJudged.{point-past, claims-tested}
 use Rattle.state_tests.proofs.state_judged.Goals as goal
 
 pub returns-then-count-point : goal.returns-then-count-point

@@ -1,6 +1,6 @@
 use native.Mathlib.Omega.{arith}
 use borrow.Author.Rules.{rules}
-use Rattle.state_tests.proofs.StateJudged.{size_small, two-sizes}
+use Rattle.state_tests.proofs.StateJudged.{size_small}
 use Rattle.state_tests.proofs.words.Goals as goal
 
 pub overflow_cast-result : goal.overflow_cast-result

@@ -1,5 +1,4 @@
 use mathlib.Core.Path.{◌∙◌}
-use borrow.Author.Rules.{rules}
 use Rattle.step_bound.proofs.JudgedBound.{bound-refused, bound-accepted}
 use Rattle.step_bound.proofs.bound_in.Goals as goal
 

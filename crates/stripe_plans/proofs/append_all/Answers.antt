@@ -1,6 +1,6 @@
 -- The new stripes after the first m are what is kept of the first i. Assumes nothing.
 use mathlib.Core.Path.{◌≡◌, sym, subst}
-use Prim.Native.Nat.{ℕ, ◌+◌, ◌-◌, ◌≤◌}
+use Prim.Native.Nat.{ℕ, ◌-◌, ◌≤◌}
 use native.Mathlib.Omega.{arith}
 use Rattle.model.specs.declared.claims.Stripe.{Stripe}
 use Rattle.model.specs.Limits.{greatest_scale, greatest_bound}
@@ -24,7 +24,7 @@ append_kept-r-requires c =
     let a = c.args in
     let at = c.loop-i in
     let standing = c.requires.standing in
-    record { small = subst (λ (s : Stripe). Small greatest_bound s × (s.a ≤ greatest_scale)) (sym c.stripe_at.ensures) (standing-small a.stripes.now a.n at.i standing (omega arith), (standing.narrow at.i (omega arith)).a); shift_limited = c.requires.shift_limited; sized_rows = at.invariant.2.sized; m_lt_edge_stripes = omega (arith, standing.few, c.requires.m_bound); }
+    record { small = subst (λ (s : Stripe). Small greatest_bound s × (s.a ≤ greatest_scale)) (sym c.stripe_at.ensures) (standing-small a.stripes.now a.n at.i standing (omega arith), (standing.narrow at.i (omega arith)).a); shift_limited = c.requires.shift_limited; sized_rows = at.invariant.2.sized; m_lt_edge_stripes = omega (arith, standing.few, c.requires.m_bound) }
 
 pub loop-i-preserved : goal.loop-i-preserved
 loop-i-preserved c =

@@ -1,6 +1,5 @@
 -- Each arm is the clause of the definition for one stripe. Assumes nothing.
 use mathlib.Core.Path.{sym, ◌∙◌}
-use borrow.Author.Rules.{rules}
 use native.Mathlib.Omega.{arith}
 use Rattle.stripe_plans.proofs.WrittenStripes.{extends-none, named-one, unnamed-one, named-either, unnamed-either, shifted_one, shifted-away}
 use Rattle.stripe_plans.proofs.append_kept.Goals as goal

@@ -1,5 +1,4 @@
 -- What is added stands in front of what is kept. Assumes nothing.
-use borrow.Author.Rules.{rules}
 use Rattle.facts.specs.Known.{stripes_of}
 use Rattle.stripe_plans.specs.Plans.{kept_of}
 use Rattle.stripe_plans.proofs.WrittenStripes.{added-kept}

@@ -1,6 +1,5 @@
 -- The number of the line is tested before it is multiplied, so that no product goes beyond its type. Assumes nothing.
-use Rattle.writer.proofs.LineJudged.{room-none, room-short, room-enough, room-line}
-use native.Mathlib.Omega.{arith}
+use Rattle.writer.proofs.LineJudged.{room-none, room-short, room-enough}
 use Rattle.writer.proofs.room_for.Goals as goal
 
 pub returns-then-n-size : goal.returns-then-n-size

@@ -3,7 +3,6 @@ use Rattle.writer.proofs.LineJudged.{both-bounds, kept_if, set_if}
 use Rattle.model.specs.Answers.{is_refused}
 use native.Mathlib.Omega.{arith}
 use mathlib.Core.Path.{◌∙◌, sym, ap}
-use borrow.Author.Rules.{rules}
 use Rattle.writer.proofs.set_known.Goals as goal
 
 pub returns-then-is_refused-clause-s_after : goal.returns-then-is_refused-clause-s_after

@@ -1,7 +1,6 @@
 -- A word that is none is 3; any other goes on with its fields. Assumes nothing.
 use Rattle.writer.proofs.LineJudged.{unknown, known}
 use mathlib.Core.Path.{◌∙◌, sym}
-use borrow.Author.Rules.{rules}
 use Rattle.writer.proofs.set_line.Goals as goal
 
 pub returns-in-Unknown : goal.returns-in-Unknown

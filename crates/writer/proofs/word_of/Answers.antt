@@ -1,6 +1,5 @@
 -- The word of four bytes is the one that the reader finds. Assumes nothing.
 use Rattle.writer.proofs.LineJudged.{word_none, word-four}
-use native.Mathlib.Omega.{arith}
 use mathlib.Core.Path.{◌∙◌}
 use Rattle.writer.proofs.word_of.Goals as goal
 

@@ -1,7 +1,6 @@
 -- The forty bytes of a line are cut out, set, and put back. Assumes nothing.
 use Rattle.writer.proofs.Laws.{cut}
 use Rattle.model.specs.Writing.{with_line}
-use borrow.Author.Rules.{rules}
 use Rattle.writer.proofs.write_line.Goals as goal
 
 pub returns : goal.returns

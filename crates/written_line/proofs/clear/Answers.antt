@@ -1,9 +1,7 @@
 -- Spaces are set one by one. Assumes nothing.
-use Prim.Native.Nat.{ℕ, ◌≤◌, ◌<◌, ◌-◌}
+use Prim.Native.Nat.{◌-◌}
 use native.Mathlib.Omega.{arith}
-use mathlib.Core.Path.{◌≡◌}
-use lib.ListN.{length, length-set, get_or}
-use Rattle.model.specs.Text.{space}
+use lib.ListN.{length-set}
 use Rattle.written_line.specs.Cleared.{ClearedFrom}
 use Rattle.written_line.proofs.ClearedColumns.{space-more}
 use Rattle.written_line.proofs.clear.Goals as goal

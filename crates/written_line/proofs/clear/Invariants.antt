@@ -1,11 +1,8 @@
 -- Spaces are set one by one. Assumes nothing.
 use Prim.Native.Nat.{ℕ, ◌≤◌, ◌<◌, ◌-◌}
-use native.Mathlib.Omega.{arith}
 use mathlib.Core.Path.{◌≡◌}
-use lib.ListN.{length, length-set, get_or}
+use lib.ListN.{length, get_or}
 use Rattle.model.specs.Text.{space}
-use Rattle.written_line.specs.Cleared.{ClearedFrom}
-use Rattle.written_line.proofs.ClearedColumns.{space-more}
 use Rattle.written_line.proofs.clear.Given as goal
 
 abbrev pub invariant-loop-i : goal.invariant-loop-i

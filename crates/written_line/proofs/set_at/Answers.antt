@@ -2,7 +2,6 @@
 use Rattle.columns.proofs.FieldColumns.{columns-fit}
 use Rattle.written_line.proofs.ClearedColumns.{cleared-field, cleared-after}
 use native.Mathlib.Omega.{arith}
-use borrow.Author.Rules.{rules}
 use Rattle.written_line.proofs.set_at.Goals as goal
 
 pub set_field-requires : goal.set_field-requires

@@ -1,13 +1,10 @@
 -- The digits of a number, from the last column to the first: what is left to be set is the same after each. Assumes nothing.
 use Prim.Native.Nat.{◌+◌, ◌≤◌}
-use native.Mathlib.Omega.{arith}
-use mathlib.Core.Path.{◌≡◌, refl, ◌∙◌}
+use mathlib.Core.Path.{◌≡◌}
 use mathlib.Core.Bool.{Bool}
-use lib.ListN.{length, length-set}
-use borrow.Author.Rules.{rules}
+use lib.ListN.{length}
 use Rattle.model.specs.Text.{columns_set}
 use Rattle.written_line.specs.Cleared.{digit_shape, SameBefore}
-use Rattle.written_line.proofs.ClearedColumns.{no-column, digit-more, digit-last, same-all, same-fewer, same-before}
 use Rattle.written_line.proofs.set_digits.Given as goal
 
 abbrev pub invariant-loop-u : goal.invariant-loop-u

@@ -1,6 +1,5 @@
 -- A field by its case; what is blank or misshapen leaves the spaces. Assumes nothing.
 use Rattle.written_line.proofs.ClearedColumns.{blank-stays, misshapen-stays, number-set}
-use borrow.Author.Rules.{rules}
 use Rattle.written_line.proofs.set_field.Goals as goal
 
 pub returns-in-Blank : goal.returns-in-Blank

@@ -2,7 +2,6 @@
 use native.Mathlib.Omega.{arith}
 use mathlib.Core.Path.{◌∙◌}
 use Rattle.model.specs.Lines.{width_of}
-use borrow.Author.Rules.{rules}
 use Rattle.written_line.proofs.set_fields.Goals as goal
 
 pub set_at-requires-2 : goal.set_at-requires-2

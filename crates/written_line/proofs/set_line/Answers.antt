@@ -2,8 +2,6 @@
 use Rattle.written_line.proofs.ClearedColumns.{cleared-word}
 use Rattle.written_line.proofs.LineFields.{line_made}
 use mathlib.Core.Path.{◌∙◌}
-use lib.ListN.{length-set}
-use borrow.Author.Rules.{rules}
 use Rattle.written_line.proofs.set_line.Goals as goal
 
 pub set_fields-requires : goal.set_fields-requires

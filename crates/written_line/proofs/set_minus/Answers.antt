@@ -1,5 +1,4 @@
 -- A minus before the digits, where there is a column for it. Assumes nothing.
-use borrow.Author.Rules.{rules}
 use Rattle.written_line.proofs.ClearedColumns.{minus-none, minus-set}
 use Rattle.written_line.proofs.set_minus.Goals as goal
 

@@ -6,7 +6,6 @@ use Rattle.model.specs.Transfer.{apart}
 use Rattle.edge_links.specs.Links.{Added}
 use Rattle.edge_links.proofs.AddedLink.{better-stands, worse-replaced, at-the-end}
 use native.Mathlib.Omega.{arith}
-use borrow.Author.Rules.{rules}
 use Rattle.edge_links.proofs.links.add_link.Goals as goal
 
 pub returns-then-enough-clause-added : goal.returns-then-enough-clause-added

@@ -1,9 +1,7 @@
 -- The first k links are those among the first i rows. Assumes nothing.
-use mathlib.Core.Path.{◌≡◌, subst}
-use Prim.Native.Nat.{ℕ, ◌≤◌, ◌-◌}
+use Prim.Native.Nat.{◌-◌}
 use native.Mathlib.Omega.{arith}
 use borrow.Author.Rules.{rules}
-use Rattle.edge_links.specs.Links.{SizedLinks, Gathered}
 use Rattle.edge_links.proofs.LinkRows.{gathered_none, gathered-more}
 use Rattle.edge_links.proofs.links.gather.Goals as goal
 

@@ -1,10 +1,6 @@
 -- The first k links are those among the first i rows. Assumes nothing.
-use mathlib.Core.Path.{◌≡◌, subst}
-use Prim.Native.Nat.{ℕ, ◌≤◌, ◌-◌}
-use native.Mathlib.Omega.{arith}
-use borrow.Author.Rules.{rules}
+use Prim.Native.Nat.{◌≤◌, ◌-◌}
 use Rattle.edge_links.specs.Links.{SizedLinks, Gathered}
-use Rattle.edge_links.proofs.LinkRows.{gathered_none, gathered-more}
 use Rattle.edge_links.proofs.links.gather.Given as goal
 
 abbrev pub invariant-loop-i : goal.invariant-loop-i

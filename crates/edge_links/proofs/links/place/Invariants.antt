@@ -1,5 +1,4 @@
 -- What it finds is a link from v to u; of the links that it passes nothing is needed. Assumes nothing.
-use native.Mathlib.Omega.{arith}
 use Prim.Native.Nat.{◌≤◌, ◌-◌}
 use Rattle.edge_links.proofs.links.place.Given as goal
 

@@ -1,15 +1,14 @@
 -- The loop's invariant: the bytes passed stand shown at the left of the spaces. Assumes nothing.
-use Prim.Native.Nat.{◌≤◌, ◌-◌}
+use Prim.Native.Nat.{◌-◌}
 use mathlib.Core.Path.{◌≡◌, ◌∙◌}
 use mathlib.Core.List.{map}
 use native.Mathlib.Omega.{arith}
 use native.Mathlib.Numerals.{add-one}
 use lib.ListN.{drop, replicate}
 use lib.Seq.{paste-zero}
-use borrow.Author.Rules.{rules}
 use Rattle.model.specs.Text.{space}
 use Rattle.explained.specs.Explanation.{shown_byte}
-use Rattle.explained.proofs.ShownLine.{shown_to, shown-more, shown-whole}
+use Rattle.explained.proofs.ShownLine.{shown-more, shown-whole}
 use Rattle.explained.proofs.shown.shown_from.Goals as goal
 
 pub loop-j-init : goal.loop-j-init

@@ -1,15 +1,8 @@
 -- The loop's invariant: the bytes passed stand shown at the left of the spaces. Assumes nothing.
 use Prim.Native.Nat.{◌≤◌, ◌-◌}
-use mathlib.Core.Path.{◌≡◌, ◌∙◌}
-use mathlib.Core.List.{map}
-use native.Mathlib.Omega.{arith}
-use native.Mathlib.Numerals.{add-one}
-use lib.ListN.{drop, replicate}
-use lib.Seq.{paste-zero}
-use borrow.Author.Rules.{rules}
-use Rattle.model.specs.Text.{space}
-use Rattle.explained.specs.Explanation.{shown_byte}
-use Rattle.explained.proofs.ShownLine.{shown_to, shown-more, shown-whole}
+use mathlib.Core.Path.{◌≡◌}
+use lib.ListN.{drop}
+use Rattle.explained.proofs.ShownLine.{shown_to}
 use Rattle.explained.proofs.shown.shown_from.Given as goal
 
 abbrev pub invariant-loop-j : goal.invariant-loop-j

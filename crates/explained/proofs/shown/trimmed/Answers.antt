@@ -1,10 +1,8 @@
 -- The loop's invariant: what was passed is spaces, and does not count. Assumes nothing.
-use Prim.Native.Nat.{◌≤◌}
 use mathlib.Core.Path.{◌≡◌, refl, sym, ap, ◌∙◌}
 use native.Mathlib.Omega.{arith}
-use lib.ListN.{length}
 use lib.Seq.{length-take-le}
-use Rattle.explained.specs.Explanation.{trimmed_to, trimmed_length}
+use Rattle.explained.specs.Explanation.{trimmed_to}
 use Rattle.explained.proofs.TrimmedText.{space-cut, byte-kept}
 use Rattle.explained.proofs.shown.trimmed.Goals as goal
 
@@ -15,7 +13,7 @@ pub returns-then-text-n-ne32 : goal.returns-then-text-n-ne32
 returns-then-text-n-ne32 c =
     let l = c.loop-n in
     let t = c.args.text.now in
-    record { upper_bound = (omega arith, sym (length-take-le l.n t (omega arith))); value = sym (l.invariant.1 ∙ byte-kept t l.n (omega arith) c.if-text-n-ne32.true); }
+    record { upper_bound = (omega arith, sym (length-take-le l.n t (omega arith))); value = sym (l.invariant.1 ∙ byte-kept t l.n (omega arith) c.if-text-n-ne32.true) }
 
 pub loop-n-preserved : goal.loop-n-preserved
 loop-n-preserved c =
@@ -28,4 +26,4 @@ returns c =
     let l = c.loop-n in
     let t = c.args.text.now in
     let e : l.n ≡ 0 = omega arith in
-    record { upper_bound = (omega arith, sym (length-take-le l.n t (omega arith))); value = e ∙ sym (l.invariant.1 ∙ ap (trimmed_to t) e); }
+    record { upper_bound = (omega arith, sym (length-take-le l.n t (omega arith))); value = e ∙ sym (l.invariant.1 ∙ ap (trimmed_to t) e) }

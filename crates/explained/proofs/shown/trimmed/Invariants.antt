@@ -1,11 +1,8 @@
 -- The loop's invariant: what was passed is spaces, and does not count. Assumes nothing.
 use Prim.Native.Nat.{◌≤◌}
-use mathlib.Core.Path.{◌≡◌, refl, sym, ap, ◌∙◌}
-use native.Mathlib.Omega.{arith}
+use mathlib.Core.Path.{◌≡◌}
 use lib.ListN.{length}
-use lib.Seq.{length-take-le}
 use Rattle.explained.specs.Explanation.{trimmed_to, trimmed_length}
-use Rattle.explained.proofs.TrimmedText.{space-cut, byte-kept}
 use Rattle.explained.proofs.shown.trimmed.Given as goal
 
 abbrev pub invariant-loop-n : goal.invariant-loop-n

@@ -1,5 +1,4 @@
 -- The shape and the limit are those of the kind. Assumes nothing.
-use borrow.Author.Rules.{rules}
 use Rattle.field_tests.specs.Asked.{asked_of}
 use Rattle.field_tests.proofs.asked.bound.Goals as goal
 

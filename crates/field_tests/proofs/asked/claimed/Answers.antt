@@ -1,6 +1,5 @@
 -- The variable says which of two limits. Assumes nothing.
 use borrow.Author.Tests.{lt-ltb, le-ltb}
-use borrow.Author.Rules.{rules}
 use Rattle.field_tests.specs.Asked.{asked_of}
 use Rattle.field_tests.proofs.asked.claimed.Goals as goal
 

@@ -1,5 +1,4 @@
 -- The limit is that of the content. Assumes nothing.
-use borrow.Author.Rules.{rules}
 use Rattle.field_tests.specs.Asked.{asked_of}
 use Rattle.field_tests.proofs.asked.offset.Goals as goal
 

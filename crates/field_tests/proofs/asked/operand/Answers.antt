@@ -1,6 +1,5 @@
 -- The choice says which of two limits. Assumes nothing.
 use borrow.Author.Tests.{eq-eqb, ne_eqb}
-use borrow.Author.Rules.{rules}
 use Rattle.field_tests.specs.Asked.{asked_of}
 use Rattle.field_tests.proofs.asked.operand.Goals as goal
 

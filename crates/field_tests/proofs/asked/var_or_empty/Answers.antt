@@ -1,6 +1,5 @@
 -- A blank has no limit. Assumes nothing.
 use borrow.Author.Tests.{eq-eqb, ne_eqb}
-use borrow.Author.Rules.{rules}
 use Rattle.field_tests.specs.Asked.{asked_of}
 use Rattle.field_tests.proofs.asked.var_or_empty.Goals as goal
 

@@ -1,15 +1,9 @@
 -- No row before the i-th stands for the goal. Assumes nothing.
-use native.Mathlib.Omega.{arith}
-use borrow.Author.Rules.{rules}
 use mathlib.Core.Bool.{false}
-use mathlib.Core.Path.{◌≡◌, sym, subst, ◌∙◌}
-use Prim.Native.Nat.{ℕ, ◌≤◌, ◌-◌}
-use Rattle.model.specs.declared.claims.Stripe.{Stripe}
+use mathlib.Core.Path.{◌≡◌}
+use Prim.Native.Nat.{◌≤◌, ◌-◌}
 use Rattle.model.specs.Transfer.{stripe}
-use Rattle.model.specs.Follows.{covers}
-use Rattle.facts.specs.StripeRows.{stripe_at}
 use Rattle.goal_search.specs.Goal.{stands}
-use Rattle.facts.proofs.Search.{below-hit, below_none, below-miss}
 use Rattle.goal_search.proofs.standing.stands.Given as goal
 
 abbrev pub invariant-loop-i : goal.invariant-loop-i

@@ -51,8 +51,8 @@ linked-loop-i-preserved t c =
     let g : Stripe = stripe a.x a.a a.y a.z a.plus a.minus in
     let missed : by_link f g (link_at a.links.now at.i) ≡ false =
     elim c.if-touches.branch [
-      linked-then-touches+else-through w ↦ sym w.through.ensures ∙ w.if-through.false |
-      linked-else-touches w ↦ cases.untouched f g (link_at a.links.now at.i) (sym c.touches.ensures ∙ w.if-touches.false)
+      | linked-then-touches+else-through w ↦ sym w.through.ensures ∙ w.if-through.false
+      | linked-else-touches w ↦ cases.untouched f g (link_at a.links.now at.i) (sym c.touches.ensures ∙ w.if-touches.false)
     ] in
     (omega arith, below-miss (λ (i : ℕ). by_link f g (link_at a.links.now i)) at.i at.invariant.1 missed)
 

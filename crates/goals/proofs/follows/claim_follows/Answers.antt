@@ -1,7 +1,6 @@
 -- Each kind of claim by its own test. Assumes nothing.
 use mathlib.Core.Path.{◌∙◌}
-use Rattle.goals.proofs.GoalOfFacts.{leas-agrees, most-agrees, stripe-agrees, turn-agrees, goal-room}
-use borrow.Author.Rules.{rules}
+use Rattle.goals.proofs.GoalOfFacts.{leas-agrees, most-agrees, stripe-agrees, turn-agrees}
 use Rattle.goals.proofs.follows.claim_follows.Goals as goal
 
 pub returns-in-Leas : goal.returns-in-Leas

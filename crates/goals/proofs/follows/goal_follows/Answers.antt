@@ -1,12 +1,10 @@
 -- The goal is taken apart into numbers, which changes nothing. Assumes nothing.
-use native.Mathlib.Omega.{arith}
 use mathlib.Core.Path.{sym, ap, ◌∙◌}
 use Rattle.model.specs.Limits.{greatest_links}
 use Rattle.model.specs.Facts.{lo}
 use Rattle.facts.specs.Sizes.{greatest_part}
 use Rattle.facts.proofs.WrittenArrays.{zeros}
 use Rattle.goals.proofs.GoalOfFacts.{once-enough, follows-agrees, together}
-use borrow.Author.Rules.{rules}
 use Rattle.goals.proofs.follows.goal_follows.Goals as goal
 
 pub returns-then-at_once : goal.returns-then-at_once

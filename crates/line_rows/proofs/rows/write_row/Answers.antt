@@ -1,7 +1,4 @@
 use mathlib.Core.Path.{refl}
-use native.Mathlib.Omega.{arith}
-use lib.ListN.{length-set}
-use borrow.Author.Rules.{rules}
 use Rattle.line_rows.specs.Rows.{with_row}
 use Rattle.line_rows.proofs.rows.write_row.Goals as goal
 

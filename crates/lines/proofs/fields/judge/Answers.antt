@@ -1,5 +1,4 @@
 -- A word that is not known is refused before its fields are looked at. Assumes nothing.
-use Rattle.std.proofs.Common.{rules}
 use Rattle.model.specs.Lines.{judged}
 use Rattle.lines.proofs.fields.judge.Goals as goal
 

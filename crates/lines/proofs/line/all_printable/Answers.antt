@@ -1,7 +1,6 @@
 -- The loop's invariant: the answer so far is that of the columns passed. Assumes nothing.
-use Rattle.std.proofs.Common.{◌≡◌, ℕ, ◌-◌, ◌≤◌, get_or, refl, add-one, arith, rules}
+use Rattle.std.proofs.Common.{◌≡◌, ◌-◌, refl, add-one, arith}
 use Rattle.model.specs.Lists.{every_below}
-use Rattle.model.specs.Lines.{printable}
 use Rattle.lines.proofs.line.all_printable.Goals as goal
 
 pub loop-j-init : goal.loop-j-init

@@ -1,5 +1,5 @@
 -- The loop's invariant: the answer so far is that of the columns passed. Assumes nothing.
-use Rattle.std.proofs.Common.{◌≡◌, ℕ, ◌-◌, ◌≤◌, get_or, refl, add-one, arith, rules}
+use Rattle.std.proofs.Common.{◌≡◌, ℕ, ◌-◌, ◌≤◌, get_or}
 use Rattle.model.specs.Lists.{every_below}
 use Rattle.model.specs.Lines.{printable}
 use Rattle.lines.proofs.line.all_printable.Given as goal

@@ -1,5 +1,4 @@
 -- The two parts are those of the definition. Assumes nothing.
-use Rattle.std.proofs.Common.{rules}
 use Rattle.model.specs.Lists.{every_below}
 use Rattle.model.specs.Lines.{well_spelled}
 use Rattle.lines.proofs.line.is_well_spelled.Goals as goal

@@ -1,5 +1,5 @@
 -- Each field is read at its columns. Assumes nothing.
-use Rattle.std.proofs.Common.{◌∙◌, arith, rules}
+use Rattle.std.proofs.Common.{◌∙◌}
 use Rattle.model.specs.Lines.{width_of, fields_in}
 use Rattle.columns.proofs.KeptShapes.{six-kept}
 use Rattle.lines.proofs.line.read_fields.Goals as goal

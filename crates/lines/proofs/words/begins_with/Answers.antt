@@ -1,5 +1,4 @@
 -- The four bytes are compared as the definition does. Assumes nothing.
-use Rattle.std.proofs.Common.{rules}
 use Rattle.model.specs.Words.{begins}
 use Rattle.lines.proofs.words.begins_with.Goals as goal
 

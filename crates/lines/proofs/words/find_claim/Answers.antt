@@ -1,5 +1,4 @@
 -- The words before the one that is found do not begin the line. Assumes nothing.
-use Rattle.std.proofs.Common.{rules}
 use Rattle.model.specs.Words.{word_among}
 use Rattle.lines.proofs.words.find_claim.Goals as goal
 

@@ -1,8 +1,7 @@
 -- Empty, or what it owes. Assumes nothing.
 use mathlib.Core.Path.{sym, ◌∙◌}
 use Rattle.model.proofs.OwedPoints.{owes_nothing, owes}
-use Rattle.obligations.proofs.Owed.{none-stand, tells-empty}
-use borrow.Author.Rules.{rules}
+use Rattle.obligations.proofs.Owed.{tells-empty}
 use Rattle.obligations.proofs.points.point_judged.Goals as goal
 
 pub returns-then-is_empty-clause-value : goal.returns-then-is_empty-clause-value

@@ -1,4 +1,4 @@
-use Rattle.operations.proofs.Accesses.{Loading, load-none, load-more, load-all, load-room}
+use Rattle.operations.proofs.Accesses.{load-none, load-more, load-all, load-room}
 use Rattle.std.proofs.Common.{arith}
 use Rattle.operations.proofs.bytes.load_bytes.Goals as goal
 

@@ -1,5 +1,4 @@
-use Rattle.operations.proofs.Accesses.{Loading, load-none, load-more, load-all, load-room}
-use Rattle.std.proofs.Common.{arith}
+use Rattle.operations.proofs.Accesses.{Loading}
 use Rattle.operations.proofs.bytes.load_bytes.Given as goal
 
 abbrev pub invariant-loop-k : goal.invariant-loop-k

@@ -1,5 +1,5 @@
-use Rattle.operations.proofs.Accesses.{Storing, store-none, store-more, store-all}
-use Rattle.std.proofs.Common.{◌-◌, arith}
+use Rattle.operations.proofs.Accesses.{store-none, store-more, store-all}
+use Rattle.std.proofs.Common.{◌-◌}
 use Rattle.operations.proofs.bytes.store_bytes.Goals as goal
 
 pub loop-k-init : goal.loop-k-init

@@ -1,5 +1,4 @@
 use Rattle.output.proofs.BoundLine.{bounded-line, unbounded-line}
-use borrow.Author.Rules.{rules}
 use Rattle.output.proofs.bound_line.bound_line.Goals as goal
 
 pub returns-in-Bounded : goal.returns-in-Bounded

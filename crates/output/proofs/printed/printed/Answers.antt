@@ -1,5 +1,4 @@
 use Rattle.output.proofs.PrintedLine.{printed-pass, printed-fail}
-use borrow.Author.Rules.{rules}
 use Rattle.output.proofs.printed.printed.Goals as goal
 
 pub returns-in-Passed : goal.returns-in-Passed

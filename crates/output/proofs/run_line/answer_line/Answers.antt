@@ -1,5 +1,4 @@
 use Rattle.output.proofs.RunLine.{stopped-line, paused-line, refused-line}
-use borrow.Author.Rules.{rules}
 use Rattle.output.proofs.run_line.answer_line.Goals as goal
 
 pub returns-in-Stopped : goal.returns-in-Stopped

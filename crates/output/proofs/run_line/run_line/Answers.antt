@@ -1,5 +1,4 @@
 use Rattle.output.proofs.RunLine.{run-line}
-use borrow.Author.Rules.{rules}
 use Rattle.output.proofs.run_line.run_line.Goals as goal
 
 pub returns : goal.returns

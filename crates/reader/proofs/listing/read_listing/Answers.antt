@@ -6,7 +6,6 @@ use borrow.Author.Tests.{not-true, not-false}
 use Rattle.model.specs.Limits.{line_bytes, today}
 use Rattle.model.specs.Listing.{read_to}
 use Rattle.reader.proofs.ReadListing.{all_read, stands-turned, stands-going, listing-good, listing-bad, good-lines}
-use borrow.Author.Rules.{rules}
 use Rattle.reader.proofs.listing.read_listing.Goals as goal
 
 pub returns-then-not-is_good_length : goal.returns-then-not-is_good_length

@@ -1,15 +1,10 @@
 -- The loop keeps the facts equal to those of the claims passed. Assumes nothing.
-use Prim.Native.Nat.{◌≤◌, ◌-◌}
+use Prim.Native.Nat.{◌-◌}
 use mathlib.Core.Path.{◌≡◌, refl}
 use native.Mathlib.Omega.{arith}
 use native.Mathlib.Numerals.{add-one}
-use borrow.Author.Rules.{rules}
 use Rattle.model.specs.Limits.{greatest_stripes}
-use Rattle.model.specs.Facts.{facts_of}
-use Rattle.model.specs.Listing.{stripes_among}
-use Rattle.decoded.specs.Decoded.{claims_from}
 use Rattle.decoded.proofs.Claims.{claims-none}
-use Rattle.facts.specs.Known.{known, AtPoint}
 use Rattle.reader.proofs.GatheredClaims.{facts-start, facts-next, stripes-next, gather-room}
 use Rattle.reader.proofs.point_facts.facts_of.Goals as goal
 
@@ -28,7 +23,7 @@ pub with_claim-m-requires : goal.with_claim-m-requires
 with_claim-m-requires c =
     let l = c.loop-j in
     let t = c.loop-j-test.true in
-    record { at_point = l.invariant.2; claim_limited = rw c.claim_at-c.ensures (c.requires.claim_rows.limited l.j t); c_bound = rw (c.claim_at-c.ensures, l.invariant.3) (gather-room c.args.rows.now c.args.from l.j c.args.n greatest_stripes t c.requires.claim_rows.few); }
+    record { at_point = l.invariant.2; claim_limited = rw c.claim_at-c.ensures (c.requires.claim_rows.limited l.j t); c_bound = rw (c.claim_at-c.ensures, l.invariant.3) (gather-room c.args.rows.now c.args.from l.j c.args.n greatest_stripes t c.requires.claim_rows.few) }
 
 pub loop-j-preserved : goal.loop-j-preserved
 loop-j-preserved c =
@@ -42,4 +37,4 @@ loop-j-preserved c =
 pub returns : goal.returns
 returns c =
     let e : c.loop-j.j ≡ c.args.n = omega arith in
-    record { result_after = rw e at c.loop-j.invariant.1; at_point = c.loop-j.invariant.2; }
+    record { result_after = rw e at c.loop-j.invariant.1; at_point = c.loop-j.invariant.2 }

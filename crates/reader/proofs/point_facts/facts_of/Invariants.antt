@@ -1,16 +1,10 @@
 -- The loop keeps the facts equal to those of the claims passed. Assumes nothing.
 use Prim.Native.Nat.{◌≤◌, ◌-◌}
-use mathlib.Core.Path.{◌≡◌, refl}
-use native.Mathlib.Omega.{arith}
-use native.Mathlib.Numerals.{add-one}
-use borrow.Author.Rules.{rules}
-use Rattle.model.specs.Limits.{greatest_stripes}
+use mathlib.Core.Path.{◌≡◌}
 use Rattle.model.specs.Facts.{facts_of}
 use Rattle.model.specs.Listing.{stripes_among}
 use Rattle.decoded.specs.Decoded.{claims_from}
-use Rattle.decoded.proofs.Claims.{claims-none}
 use Rattle.facts.specs.Known.{known, AtPoint}
-use Rattle.reader.proofs.GatheredClaims.{facts-start, facts-next, stripes-next, gather-room}
 use Rattle.reader.proofs.point_facts.facts_of.Given as goal
 
 abbrev pub invariant-loop-j : goal.invariant-loop-j

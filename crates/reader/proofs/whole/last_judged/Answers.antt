@@ -1,11 +1,9 @@
 -- The last place tells. Assumes nothing.
 use mathlib.Core.Path.{sym, ap, ◌∙◌}
 use mathlib.Core.Bool.{true, false}
-use native.Mathlib.Omega.{arith}
 use Rattle.model.specs.Instructions.{goes_on}
 use Rattle.decoded.specs.Decoded.{instruction_from}
 use Rattle.reader.proofs.WholeListing.{ends_as}
-use borrow.Author.Rules.{rules}
 use Rattle.reader.proofs.whole.last_judged.Goals as goal
 
 pub returns-then-goes_on : goal.returns-then-goes_on

@@ -1,6 +1,5 @@
 use mathlib.Core.Path.{sym, ◌∙◌}
-use Rattle.reader.proofs.WholeListing.{names-none, names-own}
-use borrow.Author.Rules.{rules}
+use Rattle.reader.proofs.WholeListing.{names-own}
 use Rattle.reader.proofs.whole.own_target_exists.Goals as goal
 
 pub returns-then-has_target : goal.returns-then-has_target

@@ -2,13 +2,11 @@
 use Prim.Native.Nat.{ℕ}
 use mathlib.Core.Path.{sym, ap, ◌∙◌}
 use mathlib.Core.Bool.{true, false, not}
-use native.Mathlib.Omega.{arith}
 use Rattle.model.specs.declared.answers.Refusal.TheVariants.{EmptyStart}
 use Rattle.model.specs.declared.answers.Judgement.TheVariants.{Refused as refused}
 use Rattle.model.specs.Facts.{Facts, non_empty}
 use Rattle.reader.proofs.GatheredClaims.{none-standing}
 use Rattle.reader.proofs.WholeListing.{starts-as}
-use borrow.Author.Rules.{rules}
 use Rattle.reader.proofs.whole.start_judged.Goals as goal
 
 pub facts_at-requires-clause-standing : goal.facts_at-requires-clause-standing

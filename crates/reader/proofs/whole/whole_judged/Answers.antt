@@ -1,11 +1,9 @@
 -- Each test in the model's order. Assumes nothing.
 use Prim.Native.Nat.{ℕ}
 use mathlib.Core.Path.{refl, ap, ◌∙◌}
-use native.Mathlib.Omega.{arith}
 use Rattle.model.specs.declared.answers.Refusal.TheVariants.{TooManyPoints}
 use Rattle.model.specs.declared.answers.Judgement.TheVariants.{Refused as refused}
 use Rattle.reader.proofs.WholeListing.{whole_open, whole-many, whole-few}
-use borrow.Author.Rules.{rules}
 use Rattle.reader.proofs.whole.whole_judged.Goals as goal
 
 pub returns-then-q-ne0 : goal.returns-then-q-ne0

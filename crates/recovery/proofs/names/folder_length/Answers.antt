@@ -26,4 +26,4 @@ returns c =
     let path = c.args.path.now in
     let e : c.loop-i.i ≡ length path = omega arith in
     let h : c.loop-i.n ≤ length path = omega arith in
-    record { upper_bound = (h, sym (length-take-le c.loop-i.n path h)); value = c.loop-i.invariant.2 ∙ ap (folder_to path) e; }
+    record { upper_bound = (h, sym (length-take-le c.loop-i.n path h)); value = c.loop-i.invariant.2 ∙ ap (folder_to path) e }

@@ -1,12 +1,9 @@
 -- The loop keeps the range of the claims passed. Assumes nothing.
-use Prim.Native.Nat.{◌≤◌, ◌-◌}
+use Prim.Native.Nat.{◌-◌}
 use mathlib.Core.Path.{◌≡◌, ◌∙◌}
 use native.Mathlib.Omega.{arith}
 use native.Mathlib.Numerals.{add-one}
-use borrow.Author.Rules.{rules}
-use Rattle.model.specs.Facts.{facts_of}
-use Rattle.decoded.specs.Decoded.{claims_from}
-use Rattle.register_claims.proofs.ClaimedRange.{Held, held_none, held_next, held_all}
+use Rattle.register_claims.proofs.ClaimedRange.{held_none, held_next, held_all}
 use Rattle.register_claims.proofs.range.range_at.Goals as goal
 
 pub first_of-from-requires : goal.first_of-from-requires

@@ -1,12 +1,8 @@
 -- The loop keeps the range of the claims passed. Assumes nothing.
 use Prim.Native.Nat.{◌≤◌, ◌-◌}
-use mathlib.Core.Path.{◌≡◌, ◌∙◌}
-use native.Mathlib.Omega.{arith}
-use native.Mathlib.Numerals.{add-one}
-use borrow.Author.Rules.{rules}
 use Rattle.model.specs.Facts.{facts_of}
 use Rattle.decoded.specs.Decoded.{claims_from}
-use Rattle.register_claims.proofs.ClaimedRange.{Held, held_none, held_next, held_all}
+use Rattle.register_claims.proofs.ClaimedRange.{Held}
 use Rattle.register_claims.proofs.range.range_at.Given as goal
 
 abbrev pub invariant-loop-j : goal.invariant-loop-j

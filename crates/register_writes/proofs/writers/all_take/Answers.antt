@@ -1,11 +1,8 @@
 -- The loop keeps the test of the points passed. Assumes nothing.
-use Prim.Native.Nat.{◌≤◌, ◌-◌}
+use Prim.Native.Nat.{◌-◌}
 use mathlib.Core.Path.{◌≡◌}
 use native.Mathlib.Omega.{arith}
 use native.Mathlib.Numerals.{add-one}
-use Rattle.model.specs.Lists.{every}
-use Rattle.model.specs.Bound.{only_takes}
-use Rattle.rows_and_places.specs.Points.{points_in}
 use Rattle.register_writes.proofs.RowWrites.{takes_none, takes-next}
 use Rattle.register_writes.proofs.writers.all_take.Goals as goal
 

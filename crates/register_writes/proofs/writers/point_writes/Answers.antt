@@ -1,8 +1,6 @@
 use mathlib.Core.Path.{sym, ap, ◌∙◌}
-use borrow.Author.Rules.{rules}
 use Rattle.model.specs.Lists.{among}
 use Rattle.model.specs.Instructions.{writes}
-use Rattle.model.specs.declared.machine.Instruction.{Instruction}
 use Rattle.line_rows.specs.declared.rows.Row.{Row}
 use Rattle.decoded.specs.Decoded.{instruction_from}
 use Rattle.register_writes.proofs.RowWrites.{unnamed-kept}

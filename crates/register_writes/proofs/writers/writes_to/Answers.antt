@@ -1,7 +1,6 @@
 -- Each instruction writes what the definition lists. Assumes nothing.
 use Rattle.model.specs.Lists.{some}
 use Rattle.register_writes.proofs.RowWrites.{or-none, divm-writes}
-use borrow.Author.Rules.{rules}
 use Rattle.register_writes.proofs.writers.writes_to.Goals as goal
 
 pub returns-in-Stop : goal.returns-in-Stop

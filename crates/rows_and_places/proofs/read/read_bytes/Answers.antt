@@ -1,6 +1,5 @@
 use mathlib.Core.Path.{sym, ◌∙◌}
 use Rattle.rows_and_places.proofs.ReadLine.{spelled, misspelled}
-use borrow.Author.Rules.{rules}
 use Rattle.rows_and_places.proofs.read.read_bytes.Goals as goal
 
 pub returns-then-is_well_spelled : goal.returns-then-is_well_spelled

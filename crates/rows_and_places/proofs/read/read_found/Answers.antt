@@ -1,5 +1,4 @@
 use Rattle.rows_and_places.proofs.ReadLine.{unknown-line}
-use borrow.Author.Rules.{rules}
 use Rattle.rows_and_places.proofs.read.read_found.Goals as goal
 
 pub returns-in-Unknown : goal.returns-in-Unknown

@@ -1,7 +1,6 @@
 use mathlib.Core.Path.{sym, ◌∙◌}
 use Rattle.lines.proofs.AcceptedFields.{accepted}
-use Rattle.rows_and_places.proofs.ReadLine.{known-accepted, known-refused}
-use borrow.Author.Rules.{rules}
+use Rattle.rows_and_places.proofs.ReadLine.{known-accepted}
 use Rattle.rows_and_places.proofs.read.read_known.Goals as goal
 
 pub returns-in-Accepted : goal.returns-in-Accepted

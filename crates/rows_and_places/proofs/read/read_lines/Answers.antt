@@ -1,16 +1,14 @@
 -- The loop keeps what was read, the rows and the places equal to the definitions. Assumes nothing.
-use Prim.Native.Nat.{suc, ◌≤◌, ◌-◌}
+use Prim.Native.Nat.{suc, ◌-◌}
 use mathlib.Core.Path.{◌≡◌, refl, ◌∙◌}
 use native.Mathlib.Omega.{arith}
 use native.Mathlib.Numerals.{add-one}
-use borrow.Author.Rules.{rules}
-use lib.ListN.{length, length-take, length-drop}
+use lib.ListN.{length-take, length-drop}
 use Rattle.model.specs.Limits.{today}
 use Rattle.model.specs.Listing.{read_to}
 use Rattle.line_rows.proofs.WrittenRows.{row-long}
 use Rattle.scan.specs.declared.Progress.TheVariants.{Turned}
 use Rattle.scan.specs.Scan.{progress_of}
-use Rattle.rows_and_places.specs.Read.{ScannedSo}
 use Rattle.rows_and_places.proofs.RowsAndPlaces.{scanned-none, within, progress-next, lines_next, turned-back, line_read_lem}
 use Rattle.rows_and_places.proofs.read.read_lines.Goals as goal
 
@@ -64,4 +62,4 @@ pub returns : goal.returns
 returns c =
     let l = c.loop-k in
     let e : l.k ≡ c.args.n = omega arith in
-    record { value = rw e at l.invariant.4; scanned_so = rw e at l.invariant.3; }
+    record { value = rw e at l.invariant.4; scanned_so = rw e at l.invariant.3 }

@@ -1,16 +1,11 @@
 -- The loop keeps what was read, the rows and the places equal to the definitions. Assumes nothing.
-use Prim.Native.Nat.{suc, ◌≤◌, ◌-◌}
-use mathlib.Core.Path.{◌≡◌, refl, ◌∙◌}
-use native.Mathlib.Omega.{arith}
-use native.Mathlib.Numerals.{add-one}
-use borrow.Author.Rules.{rules}
-use lib.ListN.{length, length-take, length-drop}
+use Prim.Native.Nat.{◌≤◌, ◌-◌}
+use mathlib.Core.Path.{◌≡◌}
+use lib.ListN.{length}
 use Rattle.model.specs.Limits.{today}
 use Rattle.model.specs.Listing.{read_to}
-use Rattle.line_rows.proofs.WrittenRows.{row-long}
 use Rattle.scan.specs.Scan.{progress_of}
 use Rattle.rows_and_places.specs.Read.{ScannedSo}
-use Rattle.rows_and_places.proofs.RowsAndPlaces.{scanned-none, within, progress-next, lines_next, turned-back, line_read_lem}
 use Rattle.rows_and_places.proofs.read.read_lines.Given as goal
 
 abbrev pub invariant-loop-k : goal.invariant-loop-k

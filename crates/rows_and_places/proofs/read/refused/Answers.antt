@@ -1,6 +1,5 @@
 use mathlib.Core.Path.{refl}
 use Rattle.rows_and_places.proofs.ReadLine.{refused-read}
-use borrow.Author.Rules.{rules}
 use Rattle.rows_and_places.proofs.read.refused.Goals as goal
 
 pub returns : goal.returns

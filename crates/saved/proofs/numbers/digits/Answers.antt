@@ -1,9 +1,7 @@
-use Prim.Native.Nat.{◌≤◌, ◌-◌}
+use Prim.Native.Nat.{◌-◌}
 use native.Mathlib.Omega.{arith}
 use mathlib.Core.Path.{◌≡◌, refl, ap, ◌∙◌}
 use lib.ListN.{length}
-use borrow.Author.Rules.{rules}
-use Rattle.model.specs.Limits as Limits
 use Rattle.saved.specs.Numbers.{digits_to}
 use Rattle.saved.proofs.BudgetDigits.{digits-next}
 use Rattle.saved.proofs.numbers.digits.Goals as goal

@@ -1,6 +1,5 @@
 use Rattle.saved.proofs.BudgetDigits.{number-none, number-some}
 use borrow.Author.Tests.{le-ltb, lt-ltb}
-use borrow.Author.Rules.{rules}
 use Rattle.saved.proofs.numbers.parse.Goals as goal
 
 pub returns-then-text-eq0 : goal.returns-then-text-eq0

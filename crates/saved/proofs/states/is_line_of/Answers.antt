@@ -2,7 +2,6 @@
 use mathlib.Core.Path.{sym, ◌∙◌}
 use borrow.Author.Tests.{not-true, not-false}
 use Rattle.saved.proofs.StateLines.{not-spelled, not-begun, begun}
-use borrow.Author.Rules.{rules}
 use Rattle.saved.proofs.states.is_line_of.Goals as goal
 
 pub returns-then-not-is_well_spelled : goal.returns-then-not-is_well_spelled

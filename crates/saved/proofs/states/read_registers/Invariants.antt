@@ -1,8 +1,5 @@
-use Rattle.saved.proofs.StateText.{registers-next}
 use Prim.Native.Nat.{◌≤◌, ◌-◌}
-use native.Mathlib.Omega.{arith}
-use mathlib.Core.Path.{◌≡◌, refl, ap, ◌∙◌}
-use borrow.Author.Rules.{rules}
+use mathlib.Core.Path.{◌≡◌}
 use Rattle.model.specs.Limits as Limits
 use Rattle.saved.specs.States.{registers_to}
 use Rattle.saved.proofs.states.read_registers.Given as goal

@@ -1,6 +1,5 @@
 -- By the length of the text and its first line. Assumes nothing.
 use Rattle.saved.proofs.StateText.{saved-short, saved-nowhere, saved-at}
-use borrow.Author.Rules.{rules}
 use Rattle.saved.proofs.states.read_state.Goals as goal
 
 pub returns-then-text-ne680 : goal.returns-then-text-ne680

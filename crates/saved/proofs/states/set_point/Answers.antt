@@ -1,5 +1,4 @@
 use Rattle.saved.specs.States.{point_set}
-use borrow.Author.Rules.{rules}
 use Rattle.saved.proofs.states.set_point.Goals as goal
 
 pub returns : goal.returns

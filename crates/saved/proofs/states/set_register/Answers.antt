@@ -1,5 +1,4 @@
 use Rattle.saved.specs.States.{register_set}
-use borrow.Author.Rules.{rules}
 use Rattle.saved.proofs.states.set_register.Goals as goal
 
 pub returns : goal.returns

@@ -1,9 +1,7 @@
 use Rattle.saved.proofs.StateText.{registers-set-next}
-use Prim.Native.Nat.{◌≤◌, ◌-◌}
+use Prim.Native.Nat.{◌-◌}
 use native.Mathlib.Omega.{arith}
 use mathlib.Core.Path.{◌≡◌, refl, ap, ◌∙◌}
-use lib.ListN.{length}
-use borrow.Author.Rules.{rules}
 use Rattle.model.specs.Limits as Limits
 use Rattle.saved.specs.States.{registers_set}
 use Rattle.saved.proofs.states.set_registers.Goals as goal

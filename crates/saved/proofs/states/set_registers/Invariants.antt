@@ -1,9 +1,6 @@
-use Rattle.saved.proofs.StateText.{registers-set-next}
 use Prim.Native.Nat.{◌≤◌, ◌-◌}
-use native.Mathlib.Omega.{arith}
-use mathlib.Core.Path.{◌≡◌, refl, ap, ◌∙◌}
+use mathlib.Core.Path.{◌≡◌}
 use lib.ListN.{length}
-use borrow.Author.Rules.{rules}
 use Rattle.model.specs.Limits as Limits
 use Rattle.saved.specs.States.{registers_set}
 use Rattle.saved.proofs.states.set_registers.Given as goal

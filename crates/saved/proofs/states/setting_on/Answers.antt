@@ -11,7 +11,6 @@ use Rattle.columns.specs.declared.field.KeptFields.{KeptFields}
 use Rattle.columns.specs.Kept.{kept_fields}
 use Rattle.saved.specs.States.{is_line_of}
 use Rattle.saved.proofs.StateLines.{no-setting, other-setting, setting, setting-fits, numbers-kept}
-use borrow.Author.Rules.{rules}
 use Rattle.saved.proofs.states.setting_on.Goals as goal
 
 -- what is kept of the line that sets register v

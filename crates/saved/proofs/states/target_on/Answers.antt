@@ -2,7 +2,6 @@
 use mathlib.Core.Path.{sym, ◌∙◌}
 use Rattle.model.specs.declared.text.Word.TheVariants.{Jump}
 use Rattle.saved.proofs.StateLines.{no_target, target, numbers-kept}
-use borrow.Author.Rules.{rules}
 use Rattle.saved.proofs.states.target_on.Goals as goal
 
 pub returns-then-is_line_of : goal.returns-then-is_line_of

@@ -1,5 +1,4 @@
 use Rattle.saved.proofs.StateText.{text-is}
-use borrow.Author.Rules.{rules}
 use Rattle.saved.proofs.states.write_state.Goals as goal
 
 pub returns : goal.returns

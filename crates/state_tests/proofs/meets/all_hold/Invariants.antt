@@ -1,10 +1,8 @@
 use Prim.Native.Nat.{◌≤◌, ◌-◌}
 use mathlib.Core.Path.{◌≡◌}
-use native.Mathlib.Omega.{arith}
 use Rattle.model.specs.Facts.{stripe_holds}
 use Rattle.model.specs.Lists.{every}
 use Rattle.facts.specs.Known.{stripes_of}
-use Rattle.state_tests.proofs.ClaimsMet.{every-none, every_more}
 use Rattle.state_tests.proofs.meets.all_hold.Given as goal
 
 abbrev pub invariant-loop-i : goal.invariant-loop-i

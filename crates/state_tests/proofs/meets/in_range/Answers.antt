@@ -1,5 +1,4 @@
 use Rattle.state_tests.proofs.ClaimsMet.{own_range}
-use borrow.Author.Rules.{rules}
 use Rattle.state_tests.proofs.meets.in_range.Goals as goal
 
 pub returns : goal.returns

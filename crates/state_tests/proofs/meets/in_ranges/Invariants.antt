@@ -1,11 +1,9 @@
 use Prim.Native.Nat.{◌≤◌, ◌-◌}
-use mathlib.Core.Path.{◌≡◌, refl, ap, ◌∙◌}
-use native.Mathlib.Numerals.{add-one}
-use native.Mathlib.Omega.{arith}
+use mathlib.Core.Path.{◌≡◌}
 use Rattle.model.specs.Limits as Limits
 use Rattle.model.specs.Lists.{every_below}
 use Rattle.facts.specs.Known.{ranges_of}
-use Rattle.state_tests.specs.Meets.{in_own_range, in_ranges}
+use Rattle.state_tests.specs.Meets.{in_own_range}
 use Rattle.state_tests.proofs.meets.in_ranges.Given as goal
 
 abbrev pub invariant-loop-v : goal.invariant-loop-v

@@ -1,5 +1,4 @@
 use Rattle.steps.proofs.InstructionSteps.{divisor, load-room, stor-room, stop-stepped, setc-stepped, copy-stepped, addw-stepped, subw-stepped, mulw-stepped, divf-stepped, load-stepped, stor-stepped, jump-stepped, bltu-stepped, bequ-stepped, divm-divisor, divm-stepped, steppable-as, stepped-as}
-use Rattle.std.proofs.Common.{rules}
 use Rattle.steps.proofs.step.step.Goals as goal
 
 pub divide-requires : goal.divide-requires

@@ -1,4 +1,4 @@
-use Rattle.steps.proofs.FilledArrays.{Copied, copied_none, copied_more, copied_all}
+use Rattle.steps.proofs.FilledArrays.{copied_none, copied_more, copied_all}
 use Rattle.std.proofs.Common.{◌≡◌, ◌-◌, length, arith, rules}
 use Rattle.model.specs.Limits as Limits
 use Rattle.steps.proofs.values.registers_of.Goals as goal

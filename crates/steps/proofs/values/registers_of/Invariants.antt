@@ -1,5 +1,5 @@
-use Rattle.steps.proofs.FilledArrays.{Copied, copied_none, copied_more, copied_all}
-use Rattle.std.proofs.Common.{◌≡◌, ◌-◌, length, arith, rules}
+use Rattle.steps.proofs.FilledArrays.{Copied}
+use Rattle.std.proofs.Common.{◌-◌}
 use Rattle.model.specs.Limits as Limits
 use Rattle.steps.proofs.values.registers_of.Given as goal
 

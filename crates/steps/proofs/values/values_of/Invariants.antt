@@ -1,6 +1,6 @@
-use Rattle.std.proofs.Common.{◌≡◌, ◌-◌, List, ◌++◌, length, ap, ◌∙◌, arith, rules}
+use Rattle.std.proofs.Common.{◌-◌}
 use Rattle.model.specs.Limits as Limits
-use Rattle.steps.proofs.FilledArrays.{Followed, followed-none, followed-more, followed-all}
+use Rattle.steps.proofs.FilledArrays.{Followed}
 use Rattle.steps.proofs.values.values_of.Given as goal
 
 abbrev pub invariant-loop-i : goal.invariant-loop-i

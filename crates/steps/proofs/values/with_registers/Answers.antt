@@ -1,5 +1,5 @@
 use Rattle.std.proofs.Common.{◌≡◌, ◌-◌, length, arith, rules}
-use Rattle.steps.proofs.FilledArrays.{Copied, copied_none, copied_more, copied-front}
+use Rattle.steps.proofs.FilledArrays.{copied_none, copied_more, copied-front}
 use Rattle.model.specs.Limits as Limits
 use Rattle.steps.proofs.values.with_registers.Goals as goal
 

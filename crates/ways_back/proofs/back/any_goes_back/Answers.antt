@@ -1,11 +1,8 @@
 -- The loop keeps the test of the points passed. Assumes nothing.
-use Prim.Native.Nat.{◌≤◌, ◌-◌}
+use Prim.Native.Nat.{◌-◌}
 use mathlib.Core.Path.{◌≡◌}
 use native.Mathlib.Omega.{arith}
 use native.Mathlib.Numerals.{add-one}
-use borrow.Author.Rules.{rules}
-use Rattle.model.specs.Bound.{any_goes_back}
-use Rattle.rows_and_places.specs.Points.{points_in}
 use Rattle.ways_back.proofs.RowEdges.{any_none, any_next}
 use Rattle.ways_back.proofs.back.any_goes_back.Goals as goal
 

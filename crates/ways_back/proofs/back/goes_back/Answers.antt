@@ -1,5 +1,4 @@
 use mathlib.Core.Path.{sym, ◌∙◌}
-use borrow.Author.Rules.{rules}
 use Rattle.ways_back.proofs.RowEdges.{back-own, back_none}
 use Rattle.ways_back.proofs.back.goes_back.Goals as goal
 

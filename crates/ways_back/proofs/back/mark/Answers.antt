@@ -1,8 +1,5 @@
 use mathlib.Core.Path.{sym, ap, ◌∙◌}
-use borrow.Author.Rules.{rules}
-use Rattle.model.specs.Instructions.{targets}
-use Rattle.decoded.specs.Decoded.{instruction_from}
-use Rattle.decoded.proofs.RowInstructions.{own-target, none_named}
+use Rattle.decoded.proofs.RowInstructions.{own-target}
 use Rattle.ways_back.specs.Covering.{with_targets}
 use Rattle.ways_back.proofs.back.mark.Goals as goal
 

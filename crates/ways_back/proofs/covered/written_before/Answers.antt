@@ -1,6 +1,4 @@
 use mathlib.Core.Path.{◌∙◌}
-use native.Mathlib.Omega.{arith}
-use borrow.Author.Rules.{rules}
 use Rattle.ways_back.proofs.CoveredPoints.{before-next}
 use Rattle.ways_back.proofs.covered.written_before.Goals as goal
 

@@ -1,9 +1,5 @@
 -- What is kept of the points is what their edges are tested by. Assumes nothing.
-use mathlib.Core.Path.{sym, ap, ◌∙◌}
-use native.Mathlib.Omega.{arith}
-use native.Mathlib.Nat.{mul-le-mul}
-use borrow.Author.Rules.{rules}
-use Rattle.model.specs.Bound.{bound_from}
+use mathlib.Core.Path.{ap, ◌∙◌}
 use Rattle.rows_and_places.specs.Points.{points_in}
 use Rattle.register_claims.specs.Claimed.{register_in}
 use Rattle.register_writes.specs.Taken.{only_taken}
@@ -21,10 +17,10 @@ pub edges_covered-requires-clause-covering : goal.edges_covered-requires-clause-
 edges_covered-requires-clause-covering c =
     let ps = points_in c.args.rows.now c.args.at.now c.args.n in
     let t = c.turn_of-t.ensures.value ∙ turn_alone c.args.rows.now c.args.at.now c.args.n (some-point _ _ _ c.requires.n_value) in record {
-        marked = c.mark_targets.ensures;
-        taken = c.only_taken-taken.ensures ∙ ap (only_taken ps) t;
-        register = c.register_in-register.ensures ∙ ap register_in t;
-      }
+      marked = c.mark_targets.ensures;
+      taken = c.only_taken-taken.ensures ∙ ap (only_taken ps) t;
+      register = c.register_in-register.ensures ∙ ap register_in t;
+    }
 
 pub rounds_of-requires : goal.rounds_of-requires
 rounds_of-requires c =
