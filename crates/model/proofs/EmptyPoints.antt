@@ -1,7 +1,7 @@
 -- The promise of T-06, proved: a run that is not turned back starts where the claims are met, and keeps to such states. Assumes nothing.
 use Prim.Native.Nat.{ℕ, ◌≤◌}
 use mathlib.Core.Path.{◌≡◌, refl, sym}
-use mathlib.Core.Bool.{true, false, false≢true}
+use mathlib.Core.Bool.{false, false≢true}
 use mathlib.Core.List.{List, [], ◌∷◌}
 use lib.ListN.{length}
 use Rattle.model.specs.Types.{State, Judgement, Accepted, refused, ClaimsNotMet}
@@ -10,7 +10,7 @@ use Rattle.model.specs.Answers.{◌and_then◌}
 use Rattle.model.specs.Listing.{Point, listing_of, points_of, point_exists}
 use Rattle.model.specs.Machine.{Tables, sizes_of, config_of}
 use Rattle.model.specs.Check.{listing_judged}
-use Rattle.model.specs.Run.{meets_claims, tables_fit, claims_met, state_judged, run_judged, Ran, ran_from, run, run_within, run_judged_within}
+use Rattle.model.specs.Run.{meets_claims, tables_fit, claims_met, state_judged, run_judged, Ran, ran_from, run_within, run_judged_within}
 use Rattle.model.specs.Safety.{Call, Sized, ran_on}
 use Rattle.model.specs.EmptyPoints.{turned_back, AwayFromEmpty, AvoidsEmpty, AllLendBytes, AllAvoidEmpty, EmptyNotReached}
 use Rattle.model.proofs.Reading.{both-accepted, test-passed}

@@ -9,7 +9,7 @@ use Rattle.model.specs.Types.{Claim, Line, refused_line, claim_line, instruction
 use Rattle.model.specs.Limits.{line_bytes, today}
 use Rattle.model.specs.Answers.{◌and_then◌}
 use Rattle.model.specs.Lines.{read_line}
-use Rattle.model.specs.Instructions.{targets, goes_on}
+use Rattle.model.specs.Instructions.{goes_on}
 use Rattle.model.specs.Listing.{Point, line_at, in_order, Reading, going, refused_reading, after_line, read_to, point_at, ends_with_instruction, few_points, all_targets_exist, ends_in_place, starts_non_empty, whole_judged, Listing, read_as, refused_listing, listing_or, listing_from, good_length, listing_of, listing_within}
 use Rattle.model.proofs.Tests.{cond_cases}
 use Rattle.model.proofs.Lists.{All, all_snoc}

@@ -1,7 +1,7 @@
 -- The step of a DIVM leaves the quotient and what is left over. Assumes nothing.
 use mathlib.Core.Path.{◌≡◌, refl, ap, sym, subst, ◌∙◌}
 use mathlib.Core.Bool.{Bool, true, false, cond, false≢true}
-use mathlib.Core.List.{List, ◌++◌}
+use mathlib.Core.List.{List}
 use Prim.Native.Nat.{ℕ, ◌<◌}
 use native.Mathlib.Nat.{mod-lt, div-add-mod', pos_of_ne-zero}
 use native.Mathlib.Omega.{arith}

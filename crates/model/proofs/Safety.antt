@@ -12,9 +12,9 @@ use Rattle.model.specs.Limits.{registers, tables, variables, greatest_size, toda
 use Rattle.model.specs.Lists.{every}
 use Rattle.model.specs.Facts.{facts_of, value_at}
 use Rattle.model.specs.Listing.{Point, point_at, Listing, read_as, refused_listing, listing_of, points_of, point_exists}
-use Rattle.model.specs.Machine.{Tables, table_of, sizes_of, size_variable, Config, config_of, state_of, values_from, values, steps}
+use Rattle.model.specs.Machine.{Tables, table_of, sizes_of, size_variable, Config, config_of, state_of, values_from, values}
 use Rattle.model.specs.Check.{points_judged, listing_judged, verdict_from, verdict_within, check, check_within}
-use Rattle.model.specs.Run.{meets_claims, tables_fit, claims_met, run_judged, run_for, at_stop, Ran, finished, ran_from, run, run_within, run_judged_within}
+use Rattle.model.specs.Run.{meets_claims, tables_fit, claims_met, run_judged, run_for, at_stop, Ran, finished, ran_from, run_within, run_judged_within}
 use Rattle.model.specs.Safety.{Call, Sized, AllLend, HaltedWell, EndedWell, RunsWell, ran_on, Kept, Safety}
 use Rattle.model.proofs.Tests.{and_left, and_right, and_both}
 use Rattle.model.proofs.Lists.{all-at}
@@ -24,7 +24,6 @@ use Rattle.model.proofs.Reading.{accepted-both, passed-test, PointLimited, well-
 use Rattle.model.proofs.OneStep.{Typed, size-value, Good, StepGood}
 use Rattle.model.proofs.Steps.{Passes, each-accepted, step_kept, reached-all}
 use Rattle.model.proofs.Runs.{ran}
-use Rattle.model.proofs.Runs
 
 -- what passing gives
 pub record Checked (l : List ℕ) : Type 0 where

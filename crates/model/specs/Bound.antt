@@ -9,7 +9,7 @@ use Rattle.model.specs.Instructions.{writes, targets, is_jump}
 use Rattle.model.specs.Facts.{Facts, lo, hi, facts_of}
 use Rattle.model.specs.Listing.{Point, point_at, listing_of, listing_within, points_of}
 use Rattle.model.specs.Check.{listing_judged, check_within}
-use Rattle.model.specs.Run.{meets_claims, run}
+use Rattle.model.specs.Run.{meets_claims}
 use Rattle.model.specs.Safety.{Call, AllLend, ran_on}
 
 -- the register of a TURN that is the first of some claims

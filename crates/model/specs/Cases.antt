@@ -9,7 +9,7 @@
 -- covered edge and of an empty point, which takes less time. What no answer shows, an edge whose divisor can only be 0, is asked of the
 -- edge itself.
 -- A listing is written a row a line: the word and the six fields, each as the text that stands at the right of its columns.
-use Rattle.std.specs.Prelude.{ℕ, zero, suc, ◌+◌, ◌-◌, ◌≡◌, List, [], ◌∷◌, ◌++◌, map, length, replicate}
+use Rattle.std.specs.Prelude.{ℕ, zero, suc, ◌+◌, ◌-◌, List, [], ◌∷◌, ◌++◌, length, replicate}
 use Prim.Native.String.{String}
 use Rattle.model.specs.Types.{Field, Blank, Number, Negative, variable, number, Instruction, Stop, Copy, Addw, Subw, Mulw, Jump, Bltu, Bequ, Divm, Divf, Next, Stripe, Claim, Leas, Most, Strp, Turn, State, Refusal, Judgement, Accepted, refused, StepBound, Bounded, refused_bound, Verdict, Passed, refused_verdict, Report, Stopped, Paused, refused_run}
 use Rattle.model.specs.Limits.{blank_variable, StripeLimits, today, earlier}
@@ -21,9 +21,8 @@ use Rattle.model.specs.Writing.{room_for, line_judged, listing_set}
 use Rattle.model.specs.Machine.{lent}
 use Rattle.model.specs.Facts.{facts_of}
 use Rattle.model.specs.Transfer.{stripe, apart, facts_along}
-use Rattle.model.specs.Follows.{lost_along}
 use Rattle.model.specs.Check.{claims_judged, points_judged, check, check_within}
-use Rattle.model.specs.Run.{Ran, run, run_within}
+use Rattle.model.specs.Run.{Ran, run}
 use Rattle.model.specs.Output.{printed}
 use Rattle.model.specs.Bound.{edges_covered, bound_from, step_bound}
 

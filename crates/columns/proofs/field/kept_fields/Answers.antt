@@ -1,6 +1,5 @@
 -- Each field is kept by itself. Assumes nothing.
 use mathlib.Core.Path.{◌∙◌}
-use borrow.Author.Rules.{rules}
 use Rattle.columns.proofs.KeptShapes.{six-kept}
 use Rattle.columns.proofs.field.kept_fields.Goals as goal
 

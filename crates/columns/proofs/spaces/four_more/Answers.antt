@@ -1,7 +1,6 @@
 -- Four bytes that are all spaces go on with the spaces. Assumes nothing.
 use mathlib.Core.Path.{sym, ◌∙◌}
 use Rattle.columns.proofs.Shapes.{four-spaces}
-use borrow.Author.Rules.{rules}
 use Rattle.columns.proofs.spaces.four_more.Goals as goal
 
 pub returns : goal.returns

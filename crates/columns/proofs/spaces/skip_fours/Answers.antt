@@ -1,7 +1,6 @@
 -- Each four that is found adds four spaces. Assumes nothing.
 use native.Mathlib.Omega.{arith}
 use mathlib.Core.Path.{refl}
-use borrow.Author.Tests.{not-false}
 use Rattle.model.specs.Text.{shape_of, digits_of}
 use Rattle.columns.proofs.spaces.skip_fours.Goals as goal
 

@@ -1,11 +1,6 @@
 -- The loop's invariant: the columns passed are spaces. Assumes nothing.
-use Prim.Native.Nat.{◌≤◌, ◌-◌}
 use native.Mathlib.Omega.{arith}
-use mathlib.Core.Path.{◌≡◌}
 use borrow.Author.Tests.{ne_eqb}
-use borrow.Author.Rules.{rules}
-use Rattle.model.specs.declared.text.Shape.TheVariants.{Spaces}
-use Rattle.model.specs.Text.{shape_of, digits_of}
 use Rattle.columns.proofs.Shapes.{space-more}
 use Rattle.columns.proofs.spaces.skip_spaces.Goals as goal
 
@@ -13,7 +8,7 @@ pub loop-i-init : goal.loop-i-init
 loop-i-init c = c.skip_fours-i.ensures
 
 pub returns-then-l-at-ne32 : goal.returns-then-l-at-ne32
-returns-then-l-at-ne32 c = record { upper_bound = (omega arith, c.loop-i.invariant.1, c.loop-i.invariant.2); space_value = λ h. ne_eqb _ _ c.if-l-at-ne32.true; }
+returns-then-l-at-ne32 c = record { upper_bound = (omega arith, c.loop-i.invariant.1, c.loop-i.invariant.2); space_value = λ h. ne_eqb _ _ c.if-l-at-ne32.true }
 
 pub loop-i-preserved : goal.loop-i-preserved
 loop-i-preserved c =
@@ -22,4 +17,4 @@ loop-i-preserved c =
     (omega arith, e, z)
 
 pub returns : goal.returns
-returns c = record { upper_bound = (omega arith, c.loop-i.invariant.1, c.loop-i.invariant.2); space_value = λ h. absurd (omega (arith, h)); }
+returns c = record { upper_bound = (omega arith, c.loop-i.invariant.1, c.loop-i.invariant.2); space_value = λ h. absurd (omega (arith, h)) }

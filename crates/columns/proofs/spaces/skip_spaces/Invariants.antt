@@ -1,12 +1,8 @@
 -- The loop's invariant: the columns passed are spaces. Assumes nothing.
 use Prim.Native.Nat.{◌≤◌, ◌-◌}
-use native.Mathlib.Omega.{arith}
 use mathlib.Core.Path.{◌≡◌}
-use borrow.Author.Tests.{ne_eqb}
-use borrow.Author.Rules.{rules}
 use Rattle.model.specs.declared.text.Shape.TheVariants.{Spaces}
 use Rattle.model.specs.Text.{shape_of, digits_of}
-use Rattle.columns.proofs.Shapes.{space-more}
 use Rattle.columns.proofs.spaces.skip_spaces.Given as goal
 
 abbrev pub invariant-loop-i : goal.invariant-loop-i
