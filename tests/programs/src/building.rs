@@ -11,9 +11,10 @@ use std::process::Command;
 
 /// Takes a moment, says that a crate is proved, and puts the program that was built before in its place.
 const TOOLCHAIN: &str =
-    "#!/bin/sh\necho \"$@\" >>calls\nsleep 0.3\necho 'rt: model proved in 1 s'\nmkdir -p target/bin\n\
-    cp built target/bin/check_listing\n";
-const FAILING: &str = "#!/bin/sh\necho 'rt: model NOT PROVED'\nexit 1\n";
+    "#!/bin/sh\necho \"$@\" >>../../calls\nsleep 0.3\nexec >&2\necho 'rt: chose --jobs 2 for model'\n\
+    echo 'logic=proved functions=1'\nmkdir -p out\ncp ../../built out/check_listing\n\
+    echo 'rt: running out/check_listing; to give it other input, run that file yourself'\n";
+const FAILING: &str = "#!/bin/sh\necho 'fn model::f: not proved' >&2\nexit 1\n";
 
 pub fn tests() -> Vec<Test> {
     vec![
