@@ -6,6 +6,7 @@ use crate::process::{start, Running};
 use lines::listing;
 use std::env;
 use std::fs;
+use std::ops::Deref;
 use std::path::Path;
 use std::process::Command;
 
@@ -24,9 +25,26 @@ pub fn tests() -> Vec<Test> {
     ]
 }
 
+/// A copy of the repository. Its list of crates goes with the test: the real toolchain takes no second one in a repository.
+struct Repository(Folder);
+
+impl Deref for Repository {
+    type Target = Folder;
+
+    fn deref(&self) -> &Folder {
+        &self.0
+    }
+}
+
+impl Drop for Repository {
+    fn drop(&mut self) {
+        let _ = fs::remove_file(self.at("crates.txt"));
+    }
+}
+
 /// A copy of the repository with the checker's wrapper, a listing, no program, and this toolchain.
-fn repository(name: &str, toolchain: Option<&str>) -> Folder {
-    let folder = Folder::new(name);
+fn repository(name: &str, toolchain: Option<&str>) -> Repository {
+    let folder = Repository(Folder::new(name));
     for wrapper in ["check-listing", "build-program"] {
         fs::copy(program(wrapper), folder.at(wrapper)).expect("the wrapper is there");
     }
