@@ -7,6 +7,8 @@ use crate::process::{said, Said};
 use crate::routines::counting;
 use crate::stages::{restore, Stages};
 use std::collections::BTreeMap;
+use std::ffi::OsStr;
+use std::os::unix::ffi::OsStrExt;
 use trials::runs::Call;
 
 /// A run makes more calls than that: both new files are made, written, synced and renamed.
@@ -32,6 +34,7 @@ const ORDER: [&str; 10] = [
 pub fn tests() -> Vec<Test> {
     vec![
         ("everything killed before each call", || each_call("kill_all", How::Kill, Whose::Everyone)),
+        ("the same and others where names are no text", no_text),
         ("everything killed after each call", || each_call("after_all", How::After, Whose::Everyone)),
         ("broken off, and broken off again while put right", broken_twice),
         ("files are synced before they are renamed", order),
@@ -47,6 +50,8 @@ pub fn tests() -> Vec<Test> {
 /// One folder whose runs are broken off.
 struct Trial {
     folder: Folder,
+    /// Where the wrapper makes its links.
+    links: Folder,
     breaker: Breaker,
     stages: Stages,
     call: Call,
@@ -54,14 +59,21 @@ struct Trial {
 
 impl Trial {
     fn new(name: &str) -> Trial {
+        Trial::inside(name, "".as_ref())
+    }
+
+    /// The folder of the runs is one of this name inside.
+    fn inside(name: &str, inner: &OsStr) -> Trial {
         let call = counting(2);
-        let folder = Folder::new(&format!("broken_{name}"));
-        Trial { folder, breaker: Breaker::new(&format!("broken_{name}")), stages: Stages::new(&call, 4), call }
+        let folder = Folder::new(&format!("broken_{name}")).inner(inner);
+        let links = Folder::new(&format!("broken_{name}_links"));
+        Trial { folder, links, breaker: Breaker::new(&format!("broken_{name}")), stages: Stages::new(&call, 4), call }
     }
 
     /// A run with its call of this number broken: what it said, and the call in words, if it came to it.
     fn run(&self, how: How, whose: Whose, at: u32) -> (Said, Option<String>) {
         let mut command = self.folder.command(self.call.budget);
+        command.env("TMPDIR", self.links.place());
         self.breaker.arm(&mut command, how, whose, at);
         (said(&mut command), self.breaker.broken())
     }
@@ -69,7 +81,17 @@ impl Trial {
 
 /// Breaks the run at its first call, at its second, and so on until it goes through.
 fn each_call(name: &str, how: How, whose: Whose) -> Result<(), String> {
-    let trial = Trial::new(name);
+    each_call_of(Trial::new(name), how, whose)
+}
+
+/// The wrapper hands the program links in the place of names that are no UTF-8 text.
+fn no_text() -> Result<(), String> {
+    let breaks = [(How::Kill, Whose::Everyone), (How::Alone, Whose::Program), (How::Fail, Whose::Program)];
+    let inner = OsStr::from_bytes(b"\xff\xfe");
+    breaks.into_iter().try_for_each(|(how, whose)| each_call_of(Trial::inside("no_text", inner), how, whose))
+}
+
+fn each_call_of(trial: Trial, how: How, whose: Whose) -> Result<(), String> {
     let fewest = if how == How::Part { FEWEST_WRITES } else { FEWEST_CALLS };
     for at in 1.. {
         trial.stages.begin(&trial.folder);

@@ -6,14 +6,16 @@ use crate::process::{start, Running};
 use lines::listing;
 use std::env;
 use std::fs;
+use std::ops::Deref;
 use std::path::Path;
 use std::process::Command;
 
 /// Takes a moment, says that a crate is proved, and puts the program that was built before in its place.
 const TOOLCHAIN: &str =
-    "#!/bin/sh\necho \"$@\" >>calls\nsleep 0.3\necho 'rt: model proved in 1 s'\nmkdir -p target/bin\n\
-    cp built target/bin/check_listing\n";
-const FAILING: &str = "#!/bin/sh\necho 'rt: model NOT PROVED'\nexit 1\n";
+    "#!/bin/sh\necho \"$@\" >>../../calls\nsleep 0.3\nexec >&2\necho 'rt: chose --jobs 2 for model'\n\
+    echo 'logic=proved functions=1'\nmkdir -p out\ncp ../../built out/check_listing\n\
+    echo 'rt: running out/check_listing; to give it other input, run that file yourself'\n";
+const FAILING: &str = "#!/bin/sh\necho 'fn model::f: not proved' >&2\nexit 1\n";
 
 pub fn tests() -> Vec<Test> {
     vec![
@@ -23,9 +25,26 @@ pub fn tests() -> Vec<Test> {
     ]
 }
 
+/// A copy of the repository. Its list of crates goes with the test: the real toolchain takes no second one in a repository.
+struct Repository(Folder);
+
+impl Deref for Repository {
+    type Target = Folder;
+
+    fn deref(&self) -> &Folder {
+        &self.0
+    }
+}
+
+impl Drop for Repository {
+    fn drop(&mut self) {
+        let _ = fs::remove_file(self.at("crates.txt"));
+    }
+}
+
 /// A copy of the repository with the checker's wrapper, a listing, no program, and this toolchain.
-fn repository(name: &str, toolchain: Option<&str>) -> Folder {
-    let folder = Folder::new(name);
+fn repository(name: &str, toolchain: Option<&str>) -> Repository {
+    let folder = Repository(Folder::new(name));
     for wrapper in ["check-listing", "build-program"] {
         fs::copy(program(wrapper), folder.at(wrapper)).expect("the wrapper is there");
     }

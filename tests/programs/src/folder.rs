@@ -143,7 +143,7 @@ impl Folder {
     /// The wrapper over the four files.
     pub fn command(&self, budget: u32) -> Command {
         let mut command = run_listing();
-        command.args(self.arguments(&budget.to_string()));
+        command.args(FILES.map(|name| self.at(name))).arg(budget.to_string());
         command
     }
 
