@@ -197,8 +197,8 @@ fn run_files(rt: HostRuntime, prepared: bool) {
             with_budget(rt, &text[..k], prepared, &results_new[..n], &state_new[..m]);
         }
         Parsed::NoNumber => {
-            io::write_all(
-                STDERR_FILENO,
+            write(
+                rt.stderr(),
                 b"run_listing: the budget is a number from 0 to 4294967295\n",
             );
             give_up(rt, prepared, &results_new[..n], &state_new[..m]);
