@@ -23,3 +23,4 @@ pub mod EmptyPoints
 pub mod WiderLimits
 pub mod Queries
 pub mod Remainders
+pub mod WorkedCases

@@ -1,9 +1,0 @@
-pub mod Kinds
-pub mod Refusals
-pub mod Slips
-pub mod SetLines
-pub mod Quotients
-pub mod Remainders
-pub mod Bounds
-pub mod EmptyPoints
-pub mod LongRecords

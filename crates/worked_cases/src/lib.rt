@@ -1,2 +1,0 @@
-// Worked cases beyond document 01's own: definitions and theorems alone.
-#![tactic(auto)]
