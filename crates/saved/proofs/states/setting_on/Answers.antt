@@ -33,3 +33,8 @@ pub returns : goal.returns
 returns c =
     let (is, f, h) = kept_of c.args.l.now _ _ c.is_line_of.ensures c.if-not-is_line_of.false-raw c.read_fields-x.ensures in
     other-setting _ _ is (λ e. c.if-x-v.false (f ∙ e))
+
+pub overflow_cast-result : goal.overflow_cast-result
+overflow_cast-result c =
+    let (is, f, h) = kept_of c.args.l.now _ _ c.is_line_of.ensures c.if-not-is_line_of.false-raw c.read_fields-x.ensures in
+    omega (arith, h, setting-fits _ is)
