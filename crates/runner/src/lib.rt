@@ -116,35 +116,35 @@ fn run_in(
     }
 }
 
-// A run of a listing of more than few lines. It stays a function of its own: its rows and its code take a large part of the stack,
+// A run of a listing of more than few lines, with code that is lent for its points. It stays a function of its own: its rows take a large part of the stack,
 // which a run of few lines does not touch.
 fn run_many(
     listing: &[u8],
+    code: &mut [u64],
     start: usize,
     registers: [u32; REGISTERS],
     trays: &[u8],
     results: &mut [u8],
     budget: u32,
 ) -> Outcome
+    requires { CodeRoom (length listing.now) code.old }
     ensures { RunByValue (Run.run listing.now (state start registers) (lent trays.now results.old) budget) result results.new }
 {
     if listing.len() <= SHORT_LISTING {
         let mut rows = [0u64; SHORT_ROWS];
-        let mut code = [0u64; SHORT_ROWS];
         return run_in(
-            listing, &mut rows, &mut code, start, registers, trays, results, budget,
+            listing, &mut rows, code, start, registers, trays, results, budget,
         );
     }
-    let mut code = [0u64; ALL_CODE];
     if listing.len() <= LONG_LISTING {
         let mut rows = [0u64; LONG_ROWS];
         return run_in(
-            listing, &mut rows, &mut code, start, registers, trays, results, budget,
+            listing, &mut rows, code, start, registers, trays, results, budget,
         );
     }
     let mut rows = [0u64; ALL_ROWS];
     run_in(
-        listing, &mut rows, &mut code, start, registers, trays, results, budget,
+        listing, &mut rows, code, start, registers, trays, results, budget,
     )
 }
 
@@ -163,7 +163,12 @@ pub fn run(listing: &[u8], state: State, trays: &[u8], results: &mut [u8], budge
             listing, &mut rows, &mut code, point, registers, trays, results, budget,
         );
     }
-    run_many(listing, point, registers, trays, results, budget)
+    if listing.len() <= SHORT_LISTING {
+        let mut code = [0u64; SHORT_ROWS];
+        return run_many(listing, &mut code, point, registers, trays, results, budget);
+    }
+    let mut code = [0u64; ALL_CODE];
+    run_many(listing, &mut code, point, registers, trays, results, budget)
 }
 
 // The same from a point and registers. With it `run_many` has two callers, and so is compiled into neither.
@@ -184,5 +189,10 @@ pub fn run_from(
             listing, &mut rows, &mut code, point, registers, trays, results, budget,
         );
     }
-    run_many(listing, point, registers, trays, results, budget)
+    if listing.len() <= SHORT_LISTING {
+        let mut code = [0u64; SHORT_ROWS];
+        return run_many(listing, &mut code, point, registers, trays, results, budget);
+    }
+    let mut code = [0u64; ALL_CODE];
+    run_many(listing, &mut code, point, registers, trays, results, budget)
 }
