@@ -1,51 +1,52 @@
 // What a run that was broken off has left of its new files: told, and put right.
 #![tactic(auto)]
 
-ghost use Rattle.std.specs.Prelude.{◌≡◌, length};
-ghost use Rattle.io.specs.Counts.{IsPrefixLen};
+ghost use Rattle.std.specs.Prelude.{◌≡◌, ◌≤◌, length, take};
 
 use files::{are_removed, is_read, is_renamed, is_there, open, say};
-use libc::STDERR_FILENO;
 use recovery::left::{Left, left_by};
 use recovery::names::beside;
 use saved::states::read_state;
+use std::io::Stderr;
+use streams::{argument, read_full, write};
 
 // Writes the name of the new file beside argument i, and answers its length.
-pub fn new_name_of(i: usize, name: &mut [u8]) -> usize
+pub fn new_name_of(rt: HostRuntime, i: usize, name: &mut [u8]) -> usize
     requires { length name.old ≡ 4096 }
-    ensures { IsPrefixLen result name.new }
+    ensures { (result ≤ length name.new) × (result ≡ length (take result name.new)) }
 {
-    let mut path = io::buffer();
-    let n = os::arg(i, &mut path);
+    let mut path = [0u8; 4096];
+    let n = argument(rt, i, &mut path);
     beside(&path[..n], name)
 }
 
 // Says what was done, or is to be done, with one file or two.
-fn tell(what: &[u8], first: &[u8], between: &[u8], second: &[u8]) {
-    io::write_all(STDERR_FILENO, b"run_listing: ");
-    io::write_all(STDERR_FILENO, what);
-    io::write_all(STDERR_FILENO, first);
-    io::write_all(STDERR_FILENO, between);
-    io::write_all(STDERR_FILENO, second);
-    io::write_all(STDERR_FILENO, b"\n");
+fn tell(to: Stderr, what: &[u8], first: &[u8], between: &[u8], second: &[u8]) {
+    write(to, b"run_listing: ");
+    write(to, what);
+    write(to, first);
+    write(to, between);
+    write(to, second);
+    write(to, b"\n");
 }
 
 // Names every new file that is there, of the results in argument 3 and the state in argument 4, and says what that means. Whether the run
 // that made them still goes on is not known here, so nothing is changed. The answer is whether there are any.
-pub fn is_left_over() -> bool {
+pub fn is_left_over(rt: HostRuntime) -> bool {
     let mut results_new = [0u8; 4096];
-    let n = new_name_of(3, &mut results_new);
+    let n = new_name_of(rt, 3, &mut results_new);
     let mut state_new = [0u8; 4096];
-    let m = new_name_of(4, &mut state_new);
-    let state_there = is_there(&state_new[..m]);
-    match left_by(is_there(&results_new[..n]), state_there) {
+    let m = new_name_of(rt, 4, &mut state_new);
+    let state_there = is_there(rt, &state_new[..m]);
+    match left_by(is_there(rt, &results_new[..n]), state_there) {
         Left::Nothing => false,
         Left::Begun => {
-            say_begun(&results_new[..n], &state_new[..m], state_there);
+            say_begun(rt.stderr(), &results_new[..n], &state_new[..m], state_there);
             true
         }
         Left::Half => {
             say(
+                rt.stderr(),
                 &state_new[..m],
                 b"left by a run that goes on or was broken off. If none goes on, the results are replaced and the state is here: rename it to the name of the state",
             );
@@ -55,9 +56,10 @@ pub fn is_left_over() -> bool {
 }
 
 // The same for a run that has changed nothing.
-fn say_begun(results_new: &[u8], state_new: &[u8], state_there: bool) {
+fn say_begun(to: Stderr, results_new: &[u8], state_new: &[u8], state_there: bool) {
     if state_there {
         tell(
+            to,
             b"left by a run that goes on or was broken off. If none goes on, nothing was changed: remove ",
             state_new,
             b", then ",
@@ -66,6 +68,7 @@ fn say_begun(results_new: &[u8], state_new: &[u8], state_there: bool) {
         return;
     }
     tell(
+        to,
         b"left by a run that goes on or was broken off. If none goes on, nothing was changed: remove ",
         results_new,
         b"",
@@ -74,13 +77,14 @@ fn say_begun(results_new: &[u8], state_new: &[u8], state_there: bool) {
 }
 
 // Removes what a run that has changed nothing has left, and says so.
-fn remove_begun(results_new: &[u8], state_new: &[u8]) {
-    let state_there = is_there(state_new);
-    if !are_removed(results_new, state_new) {
+fn remove_begun(rt: HostRuntime, results_new: &[u8], state_new: &[u8]) {
+    let state_there = is_there(rt, state_new);
+    if !are_removed(rt, results_new, state_new) {
         return;
     }
     if state_there {
         tell(
+            rt.stderr(),
             b"a run was broken off before it changed anything; removed ",
             state_new,
             b" and ",
@@ -89,6 +93,7 @@ fn remove_begun(results_new: &[u8], state_new: &[u8]) {
         return;
     }
     tell(
+        rt.stderr(),
         b"a run was broken off before it changed anything; removed ",
         results_new,
         b"",
@@ -97,14 +102,13 @@ fn remove_begun(results_new: &[u8], state_new: &[u8]) {
 }
 
 // Whether a file holds a whole state.
-fn holds_state(path: &[u8]) -> bool {
-    let fd = open(path);
-    if fd < 0 {
+fn holds_state(rt: HostRuntime, path: &[u8]) -> bool {
+    let Some(mut file) = open(rt, path) else {
         return false;
-    }
+    };
     let mut text = [0u8; 681];
-    let n = io::read_full(fd, &mut text);
-    if !is_read(fd, path, n, 681) {
+    let n = read_full(&mut file, &mut text);
+    if !is_read(rt.stderr(), file, path, n, 681) {
         return false;
     }
     let saved = read_state(&text[..n]);
@@ -112,18 +116,20 @@ fn holds_state(path: &[u8]) -> bool {
 }
 
 // Puts the state of a run in place whose results are, and says so.
-fn place_state(state_new: &[u8]) {
-    if !holds_state(state_new) {
+fn place_state(rt: HostRuntime, state_new: &[u8]) {
+    if !holds_state(rt, state_new) {
         say(
+            rt.stderr(),
             state_new,
             b"left by a run that was broken off, and no whole state: nothing was changed",
         );
         return;
     }
-    let mut state = io::buffer();
-    let n = os::arg(2, &mut state);
-    if is_renamed(state_new, &state[..n]) {
+    let mut state = [0u8; 4096];
+    let n = argument(rt, 2, &mut state);
+    if is_renamed(rt, state_new, &state[..n]) {
         tell(
+            rt.stderr(),
             b"a run was broken off after it had replaced the results; renamed ",
             state_new,
             b" to ",
@@ -133,15 +139,15 @@ fn place_state(state_new: &[u8]) {
 }
 
 // Puts right what a run over the results in argument 1 and the state in argument 2 has left. The caller sees to it that none goes on.
-pub fn put_right() {
+pub fn put_right(rt: HostRuntime) {
     let mut results_new = [0u8; 4096];
-    let n = new_name_of(1, &mut results_new);
+    let n = new_name_of(rt, 1, &mut results_new);
     let mut state_new = [0u8; 4096];
-    let m = new_name_of(2, &mut state_new);
-    let results_there = is_there(&results_new[..n]);
-    match left_by(results_there, is_there(&state_new[..m])) {
+    let m = new_name_of(rt, 2, &mut state_new);
+    let results_there = is_there(rt, &results_new[..n]);
+    match left_by(results_there, is_there(rt, &state_new[..m])) {
         Left::Nothing => {}
-        Left::Begun => remove_begun(&results_new[..n], &state_new[..m]),
-        Left::Half => place_state(&state_new[..m]),
+        Left::Begun => remove_begun(rt, &results_new[..n], &state_new[..m]),
+        Left::Half => place_state(rt, &state_new[..m]),
     }
 }

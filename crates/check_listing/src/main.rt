@@ -8,10 +8,11 @@ ghost use Rattle.model.specs.declared.answers.Judgement.TheVariants.{Refused};
 ghost use Rattle.check_listing.specs.Program.{verdict_judged, bound_judged, Tells, input_listing, line_of, judged_of};
 
 use explain::write_explanation;
-use libc::{STDERR_FILENO, STDIN_FILENO, STDOUT_FILENO};
 use model::answers::{Judgement, Refusal, StepBound, Verdict};
 use output::bound_line::bound_line;
 use output::printed::printed;
+use std::io::{Read, Stderr, Stdout};
+use streams::{argument, read_answer, read_full, write};
 
 // What is told of a listing: the line, and whether the listing is turned back.
 #[derive(Clone, Copy)]
@@ -68,62 +69,73 @@ fn input_answer(steps: bool, listing: &[u8], more: isize) -> Told
 }
 
 // Prints the line of what was read. The prover refuses a caller that has another line.
-fn print(steps: bool, listing: &[u8], more: isize, line: &[u8; 40])
+fn print(to: Stdout, steps: bool, listing: &[u8], more: isize, line: &[u8; 40])
     requires { line.now ≡ line_of steps (input_listing listing.now more) }
 {
-    io::write_all(STDOUT_FILENO, line);
+    match to.write_all(line) {
+        Ok(()) => {}
+        Err(_) => {}
+    }
 }
 
 // Explains the refusal of what was read, or says that reading failed. The prover refuses a caller that has another refusal.
-fn explain_refusal(name: &[u8], steps: bool, listing: &[u8], more: isize, r: Refusal)
+fn explain_refusal(to: Stderr, name: &[u8], steps: bool, listing: &[u8], more: isize, r: Refusal)
     requires { judged_of steps (input_listing listing.now more) ≡ Refused r }
 {
     if more < 0 {
-        io::write_all(STDERR_FILENO, name);
-        io::write_all(STDERR_FILENO, b": it could not be read whole\n");
+        write(to, name);
+        write(to, b": it could not be read whole\n");
         return;
     }
-    write_explanation(name, listing, r);
+    write_explanation(to, name, listing, r);
 }
 
 // Explains the judgement of what was read, where it is a refusal.
-fn explain_judgement(name: &[u8], steps: bool, listing: &[u8], more: isize, j: Judgement)
+fn explain_judgement(
+    to: Stderr,
+    name: &[u8],
+    steps: bool,
+    listing: &[u8],
+    more: isize,
+    j: Judgement,
+)
     requires { j ≡ judged_of steps (input_listing listing.now more) }
 {
     match j {
         Judgement::Accepted => {}
-        Judgement::Refused(r) => explain_refusal(name, steps, listing, more, r),
+        Judgement::Refused(r) => explain_refusal(to, name, steps, listing, more, r),
     }
 }
 
 // Explains it under the name that the program was given.
-fn explain_named(steps: bool, listing: &[u8], more: isize, j: Judgement)
+fn explain_named(rt: HostRuntime, steps: bool, listing: &[u8], more: isize, j: Judgement)
     requires { j ≡ judged_of steps (input_listing listing.now more) }
 {
-    let mut name = io::buffer();
-    let n = os::arg(1, &mut name);
+    let mut name = [0u8; 4096];
+    let n = argument(rt, 1, &mut name);
     if n == 0 {
-        explain_judgement(b"standard input", steps, listing, more, j);
+        explain_judgement(rt.stderr(), b"standard input", steps, listing, more, j);
         return;
     }
-    explain_judgement(&name[..n], steps, listing, more, j);
+    explain_judgement(rt.stderr(), &name[..n], steps, listing, more, j);
 }
 
 // Whether the steps are asked for.
-fn asks_steps() -> bool {
-    let mut word = io::buffer();
-    os::arg(2, &mut word) != 0
+fn asks_steps(rt: HostRuntime) -> bool {
+    let mut word = [0u8; 4096];
+    argument(rt, 2, &mut word) != 0
 }
 
-fn main() {
+fn main(rt: HostRuntime) {
+    let mut input = rt.stdin();
     let mut listing = [0u8; 65521];
-    let n = io::read_full(STDIN_FILENO, &mut listing);
+    let n = read_full(&mut input, &mut listing);
     let mut rest = [0u8; 1];
-    let more = libc::read(STDIN_FILENO, &mut rest);
-    let steps = asks_steps();
+    let more = read_answer(&input.read(&mut rest));
+    let steps = asks_steps(rt);
     let a = input_answer(steps, &listing[..n], more);
     let line = a.line;
     let judgement = a.judgement;
-    print(steps, &listing[..n], more, &line);
-    explain_named(steps, &listing[..n], more, judgement);
+    print(rt.stdout(), steps, &listing[..n], more, &line);
+    explain_named(rt, steps, &listing[..n], more, judgement);
 }

@@ -13,16 +13,17 @@ ghost use Rattle.run_parts.specs.FileRun.{is_number};
 use broken_off::{is_left_over, new_name_of, put_right};
 use file_run::run_of;
 use files::{are_removed, is_claimed, is_read, is_removed, open, say};
-use libc::STDERR_FILENO;
 use recovery::left::Left;
 use run_parts::is_made;
 use run_saved::{WRAPPED, explain_report, print, save};
 use saved::numbers::{Parsed, parse};
 use saved::states::read_state;
+use streams::{argument, argument_count, read_full, write};
 
 // Runs, saves and prints, and answers what is left of the new files. The results before the run are lent too, since what is saved and
 // printed is what the run makes of them.
 fn run_on(
+    rt: HostRuntime,
     listing: &[u8],
     trays: &[u8],
     before: &[u8],
@@ -38,16 +39,16 @@ fn run_on(
     let mut after = [0u8; 680];
     let report = run_of(listing, trays, results, text, amount, &mut line, &mut after);
     if is_made(report) {
-        let left = save(listing, trays, before, text, amount, results, &after);
+        let left = save(rt, listing, trays, before, text, amount, results, &after);
         if is_done(left) {
             let files = b"results and state are replaced";
-            print(listing, trays, before, text, amount, &line, files);
+            print(rt, listing, trays, before, text, amount, &line, files);
         }
         return left;
     }
-    explain_report(listing, trays, before, text, amount, report);
+    explain_report(rt, listing, trays, before, text, amount, report);
     let files = b"no file was changed";
-    print(listing, trays, before, text, amount, &line, files);
+    print(rt, listing, trays, before, text, amount, &line, files);
     Left::Begun
 }
 
@@ -61,23 +62,23 @@ fn is_done(left: Left) -> bool {
 }
 
 // Reads the results, and then runs.
-fn with_results(listing: &[u8], trays: &[u8], text: &[u8], amount: &[u8]) -> Left
+fn with_results(rt: HostRuntime, listing: &[u8], trays: &[u8], text: &[u8], amount: &[u8]) -> Left
     requires text_value { (saved_in text.now).whole ≡ true }
     requires amount_value { is_number (number_in amount.now) ≡ true }
 {
-    let mut path = io::buffer();
-    let n = os::arg(3, &mut path);
-    let fd = open(&path[..n]);
-    if fd < 0 {
+    let mut path = [0u8; 4096];
+    let n = argument(rt, 3, &mut path);
+    let Some(mut file) = open(rt, &path[..n]) else {
         return Left::Begun;
-    }
+    };
     let mut results = [0u8; 65537];
-    let m = io::read_full(fd, &mut results);
-    if !is_read(fd, &path[..n], m, 65537) {
+    let m = read_full(&mut file, &mut results);
+    if !is_read(rt.stderr(), file, &path[..n], m, 65537) {
         return Left::Begun;
     }
     let before = results;
     run_on(
+        rt,
         listing,
         trays,
         &before[..m],
@@ -88,25 +89,25 @@ fn with_results(listing: &[u8], trays: &[u8], text: &[u8], amount: &[u8]) -> Lef
 }
 
 // Reads the state, and then the rest.
-fn with_state(listing: &[u8], trays: &[u8], amount: &[u8]) -> Left
+fn with_state(rt: HostRuntime, listing: &[u8], trays: &[u8], amount: &[u8]) -> Left
     requires { is_number (number_in amount.now) ≡ true }
 {
-    let mut path = io::buffer();
-    let n = os::arg(4, &mut path);
-    let fd = open(&path[..n]);
-    if fd < 0 {
+    let mut path = [0u8; 4096];
+    let n = argument(rt, 4, &mut path);
+    let Some(mut file) = open(rt, &path[..n]) else {
         return Left::Begun;
-    }
+    };
     let mut text = [0u8; 681];
-    let m = io::read_full(fd, &mut text);
-    if !is_read(fd, &path[..n], m, 681) {
+    let m = read_full(&mut file, &mut text);
+    if !is_read(rt.stderr(), file, &path[..n], m, 681) {
         return Left::Begun;
     }
     let saved = read_state(&text[..m]);
     if saved.whole {
-        return with_results(listing, trays, &text[..m], amount);
+        return with_results(rt, listing, trays, &text[..m], amount);
     }
     say(
+        rt.stderr(),
         &path[..n],
         b"it is no state: a JUMP line and 16 SETC lines, registers 0 to 15",
     );
@@ -114,117 +115,115 @@ fn with_state(listing: &[u8], trays: &[u8], amount: &[u8]) -> Left
 }
 
 // Reads the trays, and then the rest.
-fn with_trays(listing: &[u8], amount: &[u8]) -> Left
+fn with_trays(rt: HostRuntime, listing: &[u8], amount: &[u8]) -> Left
     requires { is_number (number_in amount.now) ≡ true }
 {
-    let mut path = io::buffer();
-    let n = os::arg(2, &mut path);
-    let fd = open(&path[..n]);
-    if fd < 0 {
+    let mut path = [0u8; 4096];
+    let n = argument(rt, 2, &mut path);
+    let Some(mut file) = open(rt, &path[..n]) else {
         return Left::Begun;
-    }
+    };
     let mut trays = [0u8; 65537];
-    let m = io::read_full(fd, &mut trays);
-    if !is_read(fd, &path[..n], m, 65537) {
+    let m = read_full(&mut file, &mut trays);
+    if !is_read(rt.stderr(), file, &path[..n], m, 65537) {
         return Left::Begun;
     }
-    with_state(listing, &trays[..m], amount)
+    with_state(rt, listing, &trays[..m], amount)
 }
 
 // Reads the listing, and then the rest. The answer is what is left of the new files.
-fn with_listing(amount: &[u8]) -> Left
+fn with_listing(rt: HostRuntime, amount: &[u8]) -> Left
     requires { is_number (number_in amount.now) ≡ true }
 {
-    let mut path = io::buffer();
-    let n = os::arg(1, &mut path);
-    let fd = open(&path[..n]);
-    if fd < 0 {
+    let mut path = [0u8; 4096];
+    let n = argument(rt, 1, &mut path);
+    let Some(mut file) = open(rt, &path[..n]) else {
         return Left::Begun;
-    }
+    };
     let mut listing = [0u8; 65521];
-    let m = io::read_full(fd, &mut listing);
-    if !is_read(fd, &path[..n], m, 65521) {
+    let m = read_full(&mut file, &mut listing);
+    if !is_read(rt.stderr(), file, &path[..n], m, 65521) {
         return Left::Begun;
     }
-    with_trays(&listing[..m], amount)
+    with_trays(rt, &listing[..m], amount)
 }
 
 // The whole work with new files that are claimed. Where nothing was changed they are removed again.
-fn with_claimed(amount: &[u8], results_new: &[u8], state_new: &[u8])
+fn with_claimed(rt: HostRuntime, amount: &[u8], results_new: &[u8], state_new: &[u8])
     requires { is_number (number_in amount.now) ≡ true }
 {
-    match with_listing(amount) {
+    match with_listing(rt, amount) {
         Left::Nothing => {}
         Left::Begun => {
-            are_removed(results_new, state_new);
+            are_removed(rt, results_new, state_new);
         }
         Left::Half => {}
     }
 }
 
 // Gives up before anything is read: what the wrapper has prepared is removed.
-fn give_up(prepared: bool, results_new: &[u8], state_new: &[u8]) {
+fn give_up(rt: HostRuntime, prepared: bool, results_new: &[u8], state_new: &[u8]) {
     if prepared {
-        are_removed(results_new, state_new);
+        are_removed(rt, results_new, state_new);
     }
 }
 
 // The whole work with a budget: claims the new files before anything is read, the results' first.
-fn with_budget(amount: &[u8], prepared: bool, results_new: &[u8], state_new: &[u8])
+fn with_budget(rt: HostRuntime, amount: &[u8], prepared: bool, results_new: &[u8], state_new: &[u8])
     requires { is_number (number_in amount.now) ≡ true }
 {
-    if !is_claimed(results_new, prepared) {
-        give_up(prepared, results_new, state_new);
+    if !is_claimed(rt, results_new, prepared) {
+        give_up(rt, prepared, results_new, state_new);
         return;
     }
-    if !is_claimed(state_new, prepared) {
-        give_up(prepared, results_new, state_new);
-        is_removed(results_new);
+    if !is_claimed(rt, state_new, prepared) {
+        give_up(rt, prepared, results_new, state_new);
+        is_removed(rt, results_new);
         return;
     }
-    with_claimed(amount, results_new, state_new);
+    with_claimed(rt, amount, results_new, state_new);
 }
 
 // A run with the budget that is given, where it is a number.
-fn run_files(prepared: bool) {
+fn run_files(rt: HostRuntime, prepared: bool) {
     let mut results_new = [0u8; 4096];
-    let n = new_name_of(3, &mut results_new);
+    let n = new_name_of(rt, 3, &mut results_new);
     let mut state_new = [0u8; 4096];
-    let m = new_name_of(4, &mut state_new);
+    let m = new_name_of(rt, 4, &mut state_new);
     let mut text = [0u8; 16];
-    let k = os::arg(5, &mut text);
+    let k = argument(rt, 5, &mut text);
     match parse(&text[..k]) {
         Parsed::Number(_) => {
-            with_budget(&text[..k], prepared, &results_new[..n], &state_new[..m]);
+            with_budget(rt, &text[..k], prepared, &results_new[..n], &state_new[..m]);
         }
         Parsed::NoNumber => {
-            io::write_all(
-                STDERR_FILENO,
+            write(
+                rt.stderr(),
                 b"run_listing: the budget is a number from 0 to 4294967295\n",
             );
-            give_up(prepared, &results_new[..n], &state_new[..m]);
+            give_up(rt, prepared, &results_new[..n], &state_new[..m]);
         }
     }
 }
 
-fn main() {
-    let count = os::arg_count();
+fn main(rt: HostRuntime) {
+    let count = argument_count(rt);
     if count == 4 {
-        put_right();
+        put_right(rt);
         return;
     }
     if count == 6 {
-        if !is_left_over() {
-            run_files(false);
+        if !is_left_over(rt) {
+            run_files(rt, false);
         }
         return;
     }
     if count == WRAPPED {
-        run_files(true);
+        run_files(rt, true);
         return;
     }
-    io::write_all(
-        STDERR_FILENO,
+    write(
+        rt.stderr(),
         b"usage: run_listing LISTING TRAYS RESULTS STATE BUDGET\n",
     );
 }

@@ -7,17 +7,18 @@ ghost use Rattle.run_parts.specs.FileRun.{run_of, line_of, Saves};
 use answer_numbers::refusal::numbers;
 use explain::write_explanation;
 use files::{replace_both, say};
-use libc::STDOUT_FILENO;
 use model::answers::Report;
 use recovery::left::Left;
 use recovery::names::beside;
 use run_parts::file_of;
+use streams::{argument, argument_count};
 
 // How many arguments the wrapper gives, the program's own name among them.
 pub const WRAPPED: usize = 9;
 
 // Replaces the results and the state by what a run handed back. The prover refuses a caller that has anything else to save.
 pub fn save(
+    rt: HostRuntime,
     listing: &[u8],
     trays: &[u8],
     before: &[u8],
@@ -28,15 +29,16 @@ pub fn save(
 ) -> Left
     requires { Saves (run_of listing.now trays.now before.now text.now amount.now) results.now after.now }
 {
-    let mut first = io::buffer();
-    let n = os::arg(3, &mut first);
+    let mut first = [0u8; 4096];
+    let n = argument(rt, 3, &mut first);
     let mut first_new = [0u8; 4096];
     let n_new = beside(&first[..n], &mut first_new);
-    let mut second = io::buffer();
-    let m = os::arg(4, &mut second);
+    let mut second = [0u8; 4096];
+    let m = argument(rt, 4, &mut second);
     let mut second_new = [0u8; 4096];
     let m_new = beside(&second[..m], &mut second_new);
     replace_both(
+        rt,
         &first[..n],
         &first_new[..n_new],
         results,
@@ -49,6 +51,7 @@ pub fn save(
 // Prints the line of a run, and says where it could not be printed what became of the files. The prover refuses a caller that has
 // another line.
 pub fn print(
+    rt: HostRuntime,
     listing: &[u8],
     trays: &[u8],
     before: &[u8],
@@ -59,15 +62,16 @@ pub fn print(
 )
     requires { line.now ≡ line_of (run_of listing.now trays.now before.now text.now amount.now) }
 {
-    if !io::write_all(STDOUT_FILENO, line) {
-        say(b"the line could not be written", files);
+    match rt.stdout().write_all(line) {
+        Ok(()) => {}
+        Err(_) => say(rt.stderr(), b"the line could not be written", files),
     }
 }
 
 // The argument with the name that the user gave a file: the wrapper follows links in the paths of the results and the state, and hands
 // on the names that it was given as its last two arguments.
-fn name_of(file: usize) -> usize {
-    if os::arg_count() != WRAPPED {
+fn name_of(rt: HostRuntime, file: usize) -> usize {
+    if argument_count(rt) != WRAPPED {
         return file;
     }
     if file == 3 {
@@ -81,6 +85,7 @@ fn name_of(file: usize) -> usize {
 
 // Explains the report of a run, where it is a refusal. The prover refuses a caller that has another report.
 pub fn explain_report(
+    rt: HostRuntime,
     listing: &[u8],
     trays: &[u8],
     before: &[u8],
@@ -94,11 +99,11 @@ pub fn explain_report(
         Report::Stopped => {}
         Report::Paused => {}
         Report::Refused(r) => {
-            let mut name = io::buffer();
+            let mut name = [0u8; 4096];
             let told = numbers(r);
             let file = file_of(told.number, trays.len());
-            let n = os::arg(name_of(file), &mut name);
-            write_explanation(&name[..n], listing, r);
+            let n = argument(rt, name_of(rt, file), &mut name);
+            write_explanation(rt.stderr(), &name[..n], listing, r);
         }
     }
 }
