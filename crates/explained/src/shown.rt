@@ -2,6 +2,12 @@
 ghost use Rattle.std.specs.Prelude.{◌≡◌, map, ◌+◌, ◌≤◌, length, take, drop};
 ghost use Rattle.explained.specs.Explanation.{padded, shown_byte, shown_line, trimmed_length};
 
+// The last byte that is shown as it is.
+const LAST_SHOWN: u8 = b'~';
+
+// What is cut off at the right of a text.
+const SPACE: u8 = b' ';
+
 // A byte as it is shown.
 fn shown(b: u8) -> u8
     ensures { result ≡ shown_byte b }
@@ -9,7 +15,7 @@ fn shown(b: u8) -> u8
     if b < b' ' {
         return b'?';
     }
-    if b'~' < b {
+    if LAST_SHOWN < b {
         return b'?';
     }
     b
@@ -49,7 +55,7 @@ pub fn trimmed(text: &[u8]) -> usize
 {
     let mut n = text.len();
     while n > 0 {
-        if text[n - 1] != b' ' {
+        if text[n - 1] != SPACE {
             return n;
         }
         n -= 1;

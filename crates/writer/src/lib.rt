@@ -18,11 +18,14 @@ use model::answers::{Judgement, Refusal, is_refused};
 use model::limits::{GREATEST_LINES, LINE_BYTES};
 use model::text::{Field, FoundWord, Word};
 
+// The bytes of a word.
+const WORD_BYTES: usize = 4;
+
 // The word that some bytes are.
 fn word_of(t: &[u8]) -> FoundWord
     ensures { result ≡ word_of t.now }
 {
-    if t.len() != 4 {
+    if t.len() != WORD_BYTES {
         return FoundWord::Unknown;
     }
     words::find_word(t)

@@ -3,8 +3,8 @@ use Rattle.writer.proofs.LineJudged.{word_none, word-four}
 use mathlib.Core.Path.{◌∙◌}
 use Rattle.writer.proofs.word_of.Goals as goal
 
-pub returns-then-t-ne4 : goal.returns-then-t-ne4
-returns-then-t-ne4 c = word_none _ (λ h. c.if-t-ne4.true h)
+pub returns-then-t-ne-WORD_BYTES : goal.returns-then-t-ne-WORD_BYTES
+returns-then-t-ne-WORD_BYTES c = word_none _ (λ h. c.if-t-ne-WORD_BYTES.true h)
 
 pub returns : goal.returns
-returns c = c.find_word.ensures ∙ word-four _ c.if-t-ne4.false
+returns c = c.find_word.ensures ∙ word-four _ c.if-t-ne-WORD_BYTES.false

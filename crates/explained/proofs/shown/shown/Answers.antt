@@ -8,10 +8,10 @@ pub returns-then-b-lt32 : goal.returns-then-b-lt32
 unfolding shown_byte printable
 returns-then-b-lt32 c = simp (lt-leb _ _ c.if-b-lt32.true)
 
-pub returns-then-b-gt126 : goal.returns-then-b-gt126
+pub returns-then-b-gt-LAST_SHOWN : goal.returns-then-b-gt-LAST_SHOWN
 unfolding shown_byte printable
-returns-then-b-gt126 c = simp (le-leb _ _ c.if-b-lt32.false, lt-leb _ _ c.if-b-gt126.true)
+returns-then-b-gt-LAST_SHOWN c = simp (le-leb _ _ c.if-b-lt32.false, lt-leb _ _ c.if-b-gt-LAST_SHOWN.true)
 
 pub returns : goal.returns
 unfolding shown_byte printable
-returns c = simp (le-leb _ _ c.if-b-lt32.false, le-leb _ _ c.if-b-gt126.false)
+returns c = simp (le-leb _ _ c.if-b-lt32.false, le-leb _ _ c.if-b-gt-LAST_SHOWN.false)
