@@ -2,7 +2,7 @@
 use Prim.Native.Nat.{ℕ}
 use mathlib.Core.Path.{refl, ap, ◌∙◌}
 use mathlib.Core.Bool.{true, not}
-use mathlib.Core.List.{◌∷◌}
+use mathlib.Core.List.{[], ◌∷◌}
 use lib.Dec.{eqb}
 use Rattle.model.specs.declared.text.Content.TheVariants.{Variable, Bound}
 use Rattle.model.specs.declared.text.Kind.TheVariants.{Optional, Signed}

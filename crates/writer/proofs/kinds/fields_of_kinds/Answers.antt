@@ -1,5 +1,5 @@
 -- Each field has its own kind and number. Assumes nothing.
-use mathlib.Core.List.{◌∷◌}
+use mathlib.Core.List.{[], ◌∷◌}
 use Rattle.writer.specs.Kinds.{fields_of_kinds}
 use Rattle.writer.proofs.kinds.fields_of_kinds.Goals as goal
 
