@@ -12,14 +12,31 @@ pub struct RefusalNumbers {
     pub second: u64,
 }
 
-// RefusalNumbers with one place or none.
-fn with_place(number: u64, line: usize) -> RefusalNumbers
-    ensures { (result.number ≡ number) × (result.place ≡ line) × (result.second ≡ 0) }
+// The same, with lines as places.
+fn number_and_lines(r: Refusal) -> (u64, usize, usize)
+    ensures { (result.0 ≡ number_of r) × (result.1 ≡ place_of r) × (result.2 ≡ second_place_of r) }
 {
-    RefusalNumbers {
-        number,
-        place: line as u64,
-        second: 0,
+    match r {
+        Refusal::ListingLength => (1, 0, 0),
+        Refusal::LineBytes { line } => (2, line, 0),
+        Refusal::UnknownWord { line } => (3, line, 0),
+        Refusal::FieldShape { line } => (4, line, 0),
+        Refusal::NumberLimits { line } => (5, line, 0),
+        Refusal::ClaimOrder { line } => (6, line, 0),
+        Refusal::LastLineClaim { line } => (7, line, 0),
+        Refusal::TooManyPoints { line } => (8, line, 0),
+        Refusal::NoSuchTarget { line } => (9, line, 0),
+        Refusal::NoEnd { line } => (10, line, 0),
+        Refusal::EmptyStart { line } => (11, line, 0),
+        Refusal::DivisorMayBeZero { line } => (12, line, 0),
+        Refusal::AccessMayLeave { line } => (13, line, 0),
+        Refusal::ClaimMayFail { line, claim } => (14, line, claim),
+        Refusal::TableLength => (15, 0, 0),
+        Refusal::NoSuchPoint => (16, 0, 0),
+        Refusal::ClaimsNotMet => (17, 0, 0),
+        Refusal::NoRoom => (18, 0, 0),
+        Refusal::SameRegister { line } => (19, line, 0),
+        Refusal::UncoveredEdge { line } => (20, line, 0),
     }
 }
 
@@ -27,30 +44,10 @@ fn with_place(number: u64, line: usize) -> RefusalNumbers
 pub fn numbers(r: Refusal) -> RefusalNumbers
     ensures { (result.number ≡ number_of r) × (result.place ≡ place_of r) × (result.second ≡ second_place_of r) }
 {
-    match r {
-        Refusal::ListingLength => with_place(1, 0),
-        Refusal::LineBytes { line } => with_place(2, line),
-        Refusal::UnknownWord { line } => with_place(3, line),
-        Refusal::FieldShape { line } => with_place(4, line),
-        Refusal::NumberLimits { line } => with_place(5, line),
-        Refusal::ClaimOrder { line } => with_place(6, line),
-        Refusal::LastLineClaim { line } => with_place(7, line),
-        Refusal::TooManyPoints { line } => with_place(8, line),
-        Refusal::NoSuchTarget { line } => with_place(9, line),
-        Refusal::NoEnd { line } => with_place(10, line),
-        Refusal::EmptyStart { line } => with_place(11, line),
-        Refusal::DivisorMayBeZero { line } => with_place(12, line),
-        Refusal::AccessMayLeave { line } => with_place(13, line),
-        Refusal::ClaimMayFail { line, claim } => RefusalNumbers {
-            number: 14,
-            place: line as u64,
-            second: claim as u64,
-        },
-        Refusal::TableLength => with_place(15, 0),
-        Refusal::NoSuchPoint => with_place(16, 0),
-        Refusal::ClaimsNotMet => with_place(17, 0),
-        Refusal::NoRoom => with_place(18, 0),
-        Refusal::SameRegister { line } => with_place(19, line),
-        Refusal::UncoveredEdge { line } => with_place(20, line),
+    let (number, line, second_line) = number_and_lines(r);
+    RefusalNumbers {
+        number,
+        place: line as u64,
+        second: second_line as u64,
     }
 }

@@ -4,15 +4,24 @@
 #![tactic(auto)]
 
 ghost use Rattle.std.specs.Prelude.{◌≡◌};
-ghost use Rattle.model.specs.declared.answers.Judgement.TheVariants.{Refused};
-ghost use Rattle.check_listing.specs.Program.{verdict_judged, bound_judged, Tells, input_listing, line_of, judged_of};
+ghost use Rattle.check_listing.specs.Program.{Tells, input_listing, line_of, judged_of};
 
 use explain::write_explanation;
-use model::answers::{Judgement, Refusal, StepBound, Verdict};
+use model::answers::{Judgement, Refusal};
 use output::bound_line::bound_line;
 use output::printed::printed;
+use std::io;
 use std::io::{Read, Stderr, Stdout};
-use streams::{argument, read_answer, read_full, write};
+use streams::text::{Path, Text};
+use streams::{argument, is_more, read_full, write_all};
+
+// What is asked: whether the steps are, what was read, and whether there is more behind it.
+#[derive(Clone, Copy)]
+struct Asked<'a> {
+    steps: bool,
+    listing: &'a [u8],
+    more: &'a io::Result<bool>,
+}
 
 // What is told of a listing: the line, and whether the listing is turned back.
 #[derive(Clone, Copy)]
@@ -21,121 +30,87 @@ struct Told {
     judgement: Judgement,
 }
 
-// Whether a verdict turns the listing back.
-fn verdict_judged(v: Verdict) -> Judgement
-    ensures { result ≡ verdict_judged v }
-{
-    match v {
-        Verdict::Passed { points: _ } => Judgement::Accepted,
-        Verdict::Refused(r) => Judgement::Refused(r),
-    }
-}
-
-// Whether the answer for a bound does.
-fn bound_judged(b: StepBound) -> Judgement
-    ensures { result ≡ bound_judged b }
-{
-    match b {
-        StepBound::Bounded { steps: _ } => Judgement::Accepted,
-        StepBound::Refused(r) => Judgement::Refused(r),
-    }
-}
-
 // The answer for a listing: its bound where the steps are asked for, else the checker's.
 fn answer(steps: bool, listing: &[u8]) -> Told
     ensures { Tells result steps listing.now }
 {
     if steps {
-        let b = step_bound::step_bound(listing);
-        let judgement = bound_judged(b);
-        let line = bound_line(b);
-        return Told { line, judgement };
+        let bound = step_bound::step_bound(listing);
+        return Told {
+            line: bound_line(bound),
+            judgement: bound.map(|_| ()),
+        };
     }
-    let v = checker::check(listing);
-    let judgement = verdict_judged(v);
-    let line = printed(v);
-    Told { line, judgement }
+    let verdict = checker::check(listing);
+    Told {
+        line: printed(verdict),
+        judgement: verdict.map(|_| ()),
+    }
 }
 
 // The answer for what was read, where the input ended there. Anything else, a failed read too, is turned back like an empty listing,
 // so that no part of a listing can pass for the whole.
-fn input_answer(steps: bool, listing: &[u8], more: isize) -> Told
-    ensures { Tells result steps (input_listing listing.now more) }
+fn input_answer(asked: &Asked) -> Told
+    ensures { Tells result asked.now.steps (input_listing asked.now.listing.now asked.now.more.now) }
 {
-    if more == 0 {
-        return answer(steps, listing);
+    match asked.more {
+        Ok(false) => answer(asked.steps, asked.listing),
+        Ok(true) | Err(_) => answer(asked.steps, &[]),
     }
-    answer(steps, &listing[0..0])
 }
 
 // Prints the line of what was read. The prover refuses a caller that has another line.
-fn print(to: Stdout, steps: bool, listing: &[u8], more: isize, line: &[u8; 40])
-    requires { line.now ≡ line_of steps (input_listing listing.now more) }
+fn print(to: Stdout, asked: &Asked, line: &[u8; 40])
+    requires { line.now ≡ line_of asked.now.steps (input_listing asked.now.listing.now asked.now.more.now) }
 {
-    match to.write_all(line) {
-        Ok(()) => {}
-        Err(_) => {}
-    }
+    let _ = to.write_all(line);
 }
 
 // Explains the refusal of what was read, or says that reading failed. The prover refuses a caller that has another refusal.
-fn explain_refusal(to: Stderr, name: &[u8], steps: bool, listing: &[u8], more: isize, r: Refusal)
-    requires { judged_of steps (input_listing listing.now more) ≡ Refused r }
+fn explain_refusal(to: Stderr, name: &[u8], asked: &Asked, r: Refusal)
+    requires { judged_of asked.now.steps (input_listing asked.now.listing.now asked.now.more.now) ≡ Err r }
 {
-    if more < 0 {
-        write(to, name);
-        write(to, b": it could not be read whole\n");
-        return;
-    }
-    write_explanation(to, name, listing, r);
-}
-
-// Explains the judgement of what was read, where it is a refusal.
-fn explain_judgement(
-    to: Stderr,
-    name: &[u8],
-    steps: bool,
-    listing: &[u8],
-    more: isize,
-    j: Judgement,
-)
-    requires { j ≡ judged_of steps (input_listing listing.now more) }
-{
-    match j {
-        Judgement::Accepted => {}
-        Judgement::Refused(r) => explain_refusal(to, name, steps, listing, more, r),
+    match asked.more {
+        Ok(_) => write_explanation(to, name, asked.listing, r),
+        Err(_) => write_all(to, &[name, b": it could not be read whole\n"]),
     }
 }
 
-// Explains it under the name that the program was given.
-fn explain_named(rt: HostRuntime, steps: bool, listing: &[u8], more: isize, j: Judgement)
-    requires { j ≡ judged_of steps (input_listing listing.now more) }
+// Explains the judgement of what was read, where it is a refusal, under the name that the program was given.
+fn explain_judgement(rt: HostRuntime, asked: &Asked, j: Judgement)
+    requires { j ≡ judged_of asked.now.steps (input_listing asked.now.listing.now asked.now.more.now) }
 {
-    let mut name = [0u8; 4096];
-    let n = argument(rt, 1, &mut name);
-    if n == 0 {
-        explain_judgement(rt.stderr(), b"standard input", steps, listing, more, j);
-        return;
+    if let Err(r) = j {
+        let given: Path = argument(rt, 1);
+        let name = match given.as_bytes() {
+            [] => b"standard input",
+            name => name,
+        };
+        explain_refusal(rt.stderr(), name, asked, r);
     }
-    explain_judgement(rt.stderr(), &name[..n], steps, listing, more, j);
 }
 
 // Whether the steps are asked for.
 fn asks_steps(rt: HostRuntime) -> bool {
-    let mut word = [0u8; 4096];
-    argument(rt, 2, &mut word) != 0
+    let word: Path = argument(rt, 2);
+    !word.as_bytes().is_empty()
 }
 
 fn main(rt: HostRuntime) {
     let mut input = rt.stdin();
-    let mut listing = [0u8; 65521];
-    let n = read_full(&mut input, &mut listing);
-    let mut rest = [0u8; 1];
-    let more = read_answer(&input.read(&mut rest));
+    let mut text = Text::<65521>::empty();
+    read_full(&mut input, &mut text);
+    let mut rest = [0; 1];
+    let more = is_more(input.read(&mut rest));
     let steps = asks_steps(rt);
-    let a = input_answer(steps, &listing[..n], more);
-    let line = a.line;
-    let judgement = a.judgement;
-    print(rt.stdout(), steps, &listing[..n], more, &line);
-    explain_named(rt, steps, &listing[..n], more, judgement);
+    let listing = text.as_bytes();
+    let more = &more;
+    let asked = Asked {
+        steps,
+        listing,
+        more,
+    };
+    let told = input_answer(&asked);
+    print(rt.stdout(), &asked, &told.line);
+    explain_judgement(rt, &asked, told.judgement);
 }

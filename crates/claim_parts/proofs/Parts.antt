@@ -1,7 +1,7 @@
 -- The claim lines of a point, from a listing that is read or turned back. Assumes nothing.
 use mathlib.Core.Path.{◌≡◌, refl, sym, ap, ◌∙◌}
 use mathlib.Core.List.{List, [], ◌∷◌, ◌++◌}
-use Prim.Native.Nat.{ℕ, zero, suc, ◌+◌, ◌-◌, ◌*◌, ◌/◌, ◌≤◌, ◌<◌}
+use Prim.Native.Nat.{ℕ, zero, suc, ◌+◌, ◌*◌, ◌/◌, ◌≤◌, ◌<◌}
 use native.Mathlib.Omega.{arith}
 use native.Mathlib.Decide.{dec_le}
 use lib.ListN.{length, take, drop}
@@ -10,18 +10,18 @@ use Rattle.model.specs.declared.claims.Line.{Line}
 use Rattle.model.specs.declared.claims.Line.TheVariants.{Refused as refused_line, Claim as claim_line, Instruction as instruction_line}
 use Rattle.model.specs.declared.answers.Refusal.{Refusal}
 use Rattle.model.specs.declared.answers.Refusal.TheVariants.{ListingLength, NoSuchPoint, ClaimOrder}
-use Rattle.model.specs.declared.answers.Judgement.{Judgement}
-use Rattle.model.specs.declared.answers.Judgement.TheVariants.{Accepted, Refused as refused}
+use Rattle.model.specs.Types.{Judgement, accepted}
+use Rattle.std.specs.Prelude.{Result, Ok, Err}
 use Rattle.model.specs.declared.answers.ClaimPart.{ClaimPart}
 use Rattle.model.specs.Limits.{line_bytes, today}
-use Rattle.model.specs.Listing.{Point, point_at, in_order, Reading, going, refused_reading, after_line, read_to, whole_judged, read_as, refused_listing, listing_or, listing_from, good_length, listing_of, points_of, claim_lines_judged, claim_lines, part_judged, claim_part, listing_within}
-use Rattle.model.specs.Listing as model
+use Rattle.model.specs.Listing.{Listing, Point, point_at, in_order, Reading, going, refused_reading, after_line, read_to, whole_judged, read_as, refused_listing, listing_or, listing_from, good_length, listing_of, points_of, claim_lines_judged, claim_lines, part_judged, claim_part, listing_within}
 use Rattle.model.proofs.Tests.{cond_cases}
 use Rattle.model.proofs.Lists.{All, all_snoc, all-at}
 use Rattle.model.proofs.Reading.{PointLimited, well-formed}
 use Rattle.model.proofs.ClaimPart.{part-judged, part-lines}
+use Rattle.line_rows.specs.declared.rows.Row.{Row}
+use Rattle.rows_and_places.specs.declared.places.Place.{Place}
 use Rattle.decoded.proofs.Claims.{claims-count}
-use Rattle.reader.specs.declared.listing.Listing.{Listing}
 use Rattle.rows_and_places.specs.Points.{number_in, first_in, point_in, Placed}
 use Rattle.reader.specs.Listing.{Stands}
 use Rattle.rows_and_places.proofs.RowsAndPlaces.{line_read}
@@ -50,7 +50,7 @@ unfolding read_to
 read-inside s zero = tt
 read-inside s (suc n) = inside-more n (read_to today s n) (line_read s n) (read-inside s n)
 
-abbrev AllInside : ℕ → model.Listing → Type 0
+abbrev AllInside : ℕ → Listing → Type 0
 AllInside n (read_as ps) = All (Inside n) ps
 AllInside n (refused_listing r) = Unit {0}
 
@@ -64,8 +64,8 @@ all-inside s =
     n = length s / line_bytes
 
     or : (j : Judgement) (ps : List Point) → All (Inside n) ps → AllInside n (listing_or j ps)
-    or Accepted ps h = h
-    or (refused r) ps h = tt
+    or (Ok u) ps h = h
+    or (Err r) ps h = tt
 
     from : (x : Reading) → ReadInside n x → AllInside n (listing_from n x)
     from (refused_reading r) h = tt
@@ -75,63 +75,74 @@ part-is : (s : List ℕ) (p : ℕ) → claim_part s p ≡ part_judged (claim_lin
 unfolding claim_part
 part-is s p = refl
 
--- the part lies in the listing
-part-inside : (s : List ℕ) (p : ℕ) → (claim_part s p).offset + (claim_part s p).length ≤ length s
-part-inside s p = rw (part-is s p) (go (listing_of s) refl (all-inside s))
+-- a part lies in the listing
+abbrev Fits : List ℕ → Result ClaimPart Refusal → Type 0
+Fits s (Ok c) = c.offset + c.length ≤ length s
+Fits s (Err r) = Unit {0}
+
+part-fits : (s : List ℕ) (p : ℕ) → Fits s (claim_part s p)
+part-fits s p = rw (part-is s p) (go (listing_of s) refl (all-inside s))
   where
-    go : (x : model.Listing) → listing_of s ≡ x → AllInside (length s / line_bytes) x → (part_judged (claim_lines_judged x p) (point_at (points_of x) p)).offset + (part_judged (claim_lines_judged x p) (point_at (points_of x) p)).length ≤ length s
-    go (refused_listing r) e h = omega arith
+    go : (x : Listing) → listing_of s ≡ x → AllInside (length s / line_bytes) x → Fits s (part_judged (claim_lines_judged x p) (point_at (points_of x) p))
+    go (refused_listing r) e h = tt
     go (read_as ps) e h = here (dec_le (length ps) p)
       where
-        here : Dec (length ps ≤ p) → (part_judged (claim_lines_judged (read_as ps) p) (point_at ps p)).offset + (part_judged (claim_lines_judged (read_as ps) p) (point_at ps p)).length ≤ length s
-        here (yes past) = rw (le-ltb p (length ps) past) (omega arith)
+        here : Dec (length ps ≤ p) → Fits s (part_judged (claim_lines_judged (read_as ps) p) (point_at ps p))
+        here (yes past) = rw (le-ltb p (length ps) past) tt
         here (no within) =
             let i : p < length ps = omega arith in
             let last : (point_at ps p).line ≤ length s / line_bytes = all-at (Inside (length s / line_bytes)) ps _ p i h in
             let before : length (point_at ps p).claims < (point_at ps p).line = (all-at PointLimited ps _ p i (well-formed s ps e).limited).before in
             rw (lt-ltb p (length ps) i) (omega arith)
 
--- what the call hands back, once it is the model's part
-module _ (s : List ℕ) (p : ℕ) (c : ClaimPart) (is : c ≡ claim_part s p) where
-  pub lies-inside : c.offset + c.length ≤ length s
-  lies-inside = rw is (part-inside s p)
+-- what the call for the bytes hands back, by the model's part
+module _ (s : List ℕ) (p : ℕ) (x : Result ClaimPart Refusal) (is : x ≡ claim_part s p) where
+  pub lies-inside : (c : ClaimPart) → x ≡ Ok c → c.offset + c.length ≤ length s
+  lies-inside c e = rw (sym is ∙ e) at (part-fits s p)
 
-  pub holds-lines : take c.length (drop c.offset s) ≡ claim_lines s p
-  holds-lines = rw is (part-lines s p)
+  pub holds-lines : (c : ClaimPart) → x ≡ Ok c → take c.length (drop c.offset s) ≡ claim_lines s p
+  holds-lines c e = rw (sym is ∙ e) at (part-lines s p)
 
-  pub is-judged : c.judgement ≡ claim_lines_judged (listing_of s) p
-  is-judged = rw is (part-judged s p)
+  pub holds-none : (r : Refusal) → x ≡ Err r → [] ≡ claim_lines s p
+  holds-none r e = rw (sym is ∙ e) at (part-lines s p)
+
+  pub judged-ok : (c : ClaimPart) → x ≡ Ok c → accepted ≡ claim_lines_judged (listing_of s) p
+  judged-ok c e = rw (sym is ∙ e) at (part-judged s p)
+
+  pub judged-err : (r : Refusal) → x ≡ Err r → Err r ≡ claim_lines_judged (listing_of s) p
+  judged-err r e = rw (sym is ∙ e) at (part-judged s p)
 
 -- the part by the numbers of a place
-pub part_at : (rows at : List ℕ) (p from n : ℕ) → from ≡ first_in at p → n ≡ number_in at p → record { judgement = Accepted; offset = from * line_bytes; length = n * line_bytes } ≡ part_judged Accepted (point_in rows at p)
+pub part_at : (rows : List Row) (at : List Place) (p from n : ℕ) → from ≡ first_in at p → n ≡ number_in at p → Ok (record { offset = from * line_bytes; length = n * line_bytes }) ≡ part_judged accepted (point_in rows at p)
 part_at rows at p from n a b = rw (a, b, claims-count rows (first_in at p) (number_in at p))
 
 -- a point of a listing that is read has its place
-pub point-placed : (x : model.Listing) (l : Listing) (rows at : List ℕ) (p : ℕ) → Stands x l rows at → l.judgement ≡ Accepted → p < l.count → Placed rows at p
-point-placed (read_as ps) l rows at p h e k = h.2.all.each p k
-point-placed (refused_listing x) l rows at p h e k = let z : ◌≡◌ {A = ℕ} 0 1 = cc in absurd (omega arith)
+pub point-placed : (x : Listing) (n : ℕ) (rows : List Row) (at : List Place) (p : ℕ) → Stands x (Ok n) rows at → p < n → Placed rows at p
+point-placed (read_as ps) n rows at p h k = h.1.all.each p k
+point-placed (refused_listing x) n rows at p h k = absurd h
 
-module _ (s : List ℕ) (l : Listing) (rows at : List ℕ) (stands : Stands (listing_of s) l rows at) (p : ℕ) (c : ClaimPart) where
-  pub none-refused : (r : Refusal) → l.judgement ≡ refused r → ((q : Point) → c ≡ part_judged (refused r) q) → c ≡ claim_part s p
-  none-refused r e is = go (listing_of s) stands ∙ sym (part-is s p)
+module _ (s : List ℕ) (rows : List Row) (at : List Place) (p : ℕ) where
+  pub none-refused : (r : Refusal) → Stands (listing_of s) (Err r) rows at → Err r ≡ claim_part s p
+  none-refused r stands = go (listing_of s) stands ∙ sym (part-is s p)
     where
-      go : (x : model.Listing) → Stands x l rows at → c ≡ part_judged (claim_lines_judged x p) (point_at (points_of x) p)
-      go (read_as ps) h = let w = h.0 in let z : ◌≡◌ {A = ℕ} 0 1 = cc in absurd (omega arith)
-      go (refused_listing x) h = let same : x ≡ r = cc in rw same (is (point_at [] p))
+      go : (x : Listing) → Stands x (Err r) rows at → Err r ≡ part_judged (claim_lines_judged x p) (point_at (points_of x) p)
+      go (read_as ps) h = absurd h
+      go (refused_listing x) h = ap Err h
 
-  pub none-past : l.judgement ≡ Accepted → l.count ≤ p → ((q : Point) → c ≡ part_judged (refused NoSuchPoint) q) → c ≡ claim_part s p
-  none-past e k is = go (listing_of s) stands ∙ sym (part-is s p)
-    where
-      go : (x : model.Listing) → Stands x l rows at → c ≡ part_judged (claim_lines_judged x p) (point_at (points_of x) p)
-      go (read_as ps) h = let n : l.count ≡ length ps = sym (points-count rows at l.count) ∙ ap length h.1 in rw (le-ltb p (length ps) (omega arith)) (is (point_at ps p))
-      go (refused_listing x) h = let z : ◌≡◌ {A = ℕ} 0 1 = cc in absurd (omega arith)
+  module _ (n : ℕ) (stands : Stands (listing_of s) (Ok n) rows at) where
+    pub none-past : n ≤ p → Err NoSuchPoint ≡ claim_part s p
+    none-past k = go (listing_of s) stands ∙ sym (part-is s p)
+      where
+        go : (x : Listing) → Stands x (Ok n) rows at → Err NoSuchPoint ≡ part_judged (claim_lines_judged x p) (point_at (points_of x) p)
+        go (read_as ps) h = let m : n ≡ length ps = sym (points-count rows at n) ∙ ap length h.0 in rw (le-ltb p (length ps) (omega arith)) refl
+        go (refused_listing x) h = absurd h
 
-  pub part-read : l.judgement ≡ Accepted → p < l.count → c ≡ part_judged Accepted (point_in rows at p) → c ≡ claim_part s p
-  part-read e k is = is ∙ go (listing_of s) stands ∙ sym (part-is s p)
-    where
-      go : (x : model.Listing) → Stands x l rows at → part_judged Accepted (point_in rows at p) ≡ part_judged (claim_lines_judged x p) (point_at (points_of x) p)
-      go (refused_listing x) h = let z : ◌≡◌ {A = ℕ} 0 1 = cc in absurd (omega arith)
-      go (read_as ps) h =
-          let n : l.count ≡ length ps = sym (points-count rows at l.count) ∙ ap length h.1 in
-          let i : p < length ps = omega arith in
-          rw (lt-ltb p (length ps) i, ← h.1, points-at rows at l.count p k)
+    pub part-read : (c : ClaimPart) → p < n → Ok c ≡ part_judged accepted (point_in rows at p) → Ok c ≡ claim_part s p
+    part-read c k is = is ∙ go (listing_of s) stands ∙ sym (part-is s p)
+      where
+        go : (x : Listing) → Stands x (Ok n) rows at → part_judged accepted (point_in rows at p) ≡ part_judged (claim_lines_judged x p) (point_at (points_of x) p)
+        go (refused_listing x) h = absurd h
+        go (read_as ps) h =
+            let m : n ≡ length ps = sym (points-count rows at n) ∙ ap length h.0 in
+            let i : p < length ps = omega arith in
+            rw (lt-ltb p (length ps) i, ← h.0, points-at rows at n p k)

@@ -1,57 +1,77 @@
--- What is kept of the fields of a line: the shape of each, as a number, and its number side by side. The number of a field that has none is 0.
-use Rattle.std.specs.Prelude.{ℕ, zero, suc, ◌+◌, ◌*◌, cond, List, eqb}
+-- What is kept of the fields of a line: the shape of each and its number side by side. The number of a field that has none is 0.
+use Rattle.std.specs.Prelude.{ℕ, zero, suc, ◌+◌, ◌*◌, ◌-◌, ◌/◌, ◌%◌, ◌^◌, Bool, true, false, cond, List, eqb}
 use Rattle.model.specs.declared.text.Field.{Field}
 use Rattle.model.specs.declared.text.Field.TheVariants.{Blank, Number, Negative, Misshapen}
 use Rattle.model.specs.Lines.{field_at}
+use Rattle.columns.specs.declared.field.KeptShape.{KeptShape}
+use Rattle.columns.specs.declared.field.KeptShape.TheVariants as Shape
 use Rattle.columns.specs.declared.field.KeptField.{KeptField}
 use Rattle.columns.specs.declared.field.KeptFields.{KeptFields}
 
--- the shapes as numbers: nothing but spaces
-abbrev pub BLANK : ℕ
-BLANK = 0
+-- the number of a shape
+abbrev pub number_of : KeptShape → ℕ
+number_of Shape.Blank = 0
+number_of Shape.Number = 1
+number_of Shape.Negative = 2
+number_of Shape.Misshapen = 3
 
--- a number without a minus
-abbrev pub NUMBER : ℕ
-NUMBER = 1
+-- the shape of a number
+abbrev pub shape_at : ℕ → KeptShape
+shape_at n = cond (eqb n 0) Shape.Blank (cond (eqb n 1) Shape.Number (cond (eqb n 2) Shape.Negative Shape.Misshapen))
+
+-- the shape of field j, counted from 0, in the number of six
+abbrev pub shape_in : ℕ → ℕ → KeptShape
+shape_in shapes j = shape_at (shapes / 2 ^ (2 * (5 - j)) % 4)
+
+-- nothing but spaces
+abbrev pub is_blank : KeptShape → Bool
+is_blank Shape.Blank = true
+is_blank Shape.Number = false
+is_blank Shape.Negative = false
+is_blank Shape.Misshapen = false
 
 -- a number after a minus
-abbrev pub NEGATIVE : ℕ
-NEGATIVE = 2
-
--- anything else
-abbrev pub MISSHAPEN : ℕ
-MISSHAPEN = 3
+abbrev pub is_negative : KeptShape → Bool
+is_negative Shape.Blank = false
+is_negative Shape.Number = false
+is_negative Shape.Negative = true
+is_negative Shape.Misshapen = false
 
 -- a shape and a number
-abbrev pub side_by_side : ℕ → ℕ → KeptField
+abbrev pub side_by_side : KeptShape → ℕ → KeptField
 side_by_side s v = record { shape = s; number = v }
 
--- what is kept of a field that may have a minus
-abbrev pub kept_signed : Field → KeptField
-kept_signed Blank = side_by_side BLANK 0
-kept_signed (Number v) = side_by_side NUMBER v
-kept_signed (Negative v) = side_by_side NEGATIVE v
-kept_signed Misshapen = side_by_side MISSHAPEN 0
+-- a field of spaces
+abbrev pub blank : KeptField
+blank = side_by_side Shape.Blank 0
 
--- what is kept of a field where no word asks for a minus: one that has it is misshapen
-abbrev pub kept_plain : Field → KeptField
-kept_plain Blank = side_by_side BLANK 0
-kept_plain (Number v) = side_by_side NUMBER v
-kept_plain (Negative v) = side_by_side MISSHAPEN 0
-kept_plain Misshapen = side_by_side MISSHAPEN 0
+-- a number, after a minus or not
+abbrev pub signed : Bool → ℕ → KeptField
+signed negative v = side_by_side (cond negative Shape.Negative Shape.Number) v
+
+-- columns that are neither spaces nor a number
+abbrev pub misshapen : KeptField
+misshapen = side_by_side Shape.Misshapen 0
+
+-- what is kept of a field, where a minus may stand or not: one that has it where it may not is misshapen
+abbrev pub kept : Bool → Field → KeptField
+kept may Blank = blank
+kept may (Number v) = signed false v
+kept may (Negative v) = cond may (signed true v) misshapen
+kept may Misshapen = misshapen
 
 -- what is kept of field j, counted from 0: a minus may stand in F6 alone
 abbrev pub kept_at : List Field → ℕ → KeptField
-kept_at fs j = cond (eqb j 5) (kept_signed (field_at fs j)) (kept_plain (field_at fs j))
+kept_at fs j = kept (eqb j 5) (field_at fs j)
 
 -- the shapes of the first n fields in one number, two binary digits each
 unfoldable pub shapes_to : List Field → ℕ → ℕ
 shapes_to fs zero = 0
-shapes_to fs (suc n) = shapes_to fs n * 4 + (kept_at fs n).shape
+shapes_to fs (suc n) = shapes_to fs n * 4 + number_of (kept_at fs n).shape
 
 -- six shapes in one number
-abbrev pub packed : ℕ → ℕ → ℕ → ℕ → ℕ → ℕ → ℕ
-packed a b c d e f = ((((a * 4 + b) * 4 + c) * 4 + d) * 4 + e) * 4 + f
+abbrev pub packed : KeptShape → KeptShape → KeptShape → KeptShape → KeptShape → KeptShape → ℕ
+packed a b c d e f = ((((number_of a * 4 + number_of b) * 4 + number_of c) * 4 + number_of d) * 4 + number_of e) * 4 + number_of f
 
 -- six fields, each kept by itself, as those of a line
 abbrev pub six : KeptField → KeptField → KeptField → KeptField → KeptField → KeptField → KeptFields

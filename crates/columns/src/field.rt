@@ -1,25 +1,74 @@
 // A field: how many columns it has, and what is kept of it.
-ghost use Rattle.std.specs.Prelude.{◌≡◌, cond, ◌/◌, ◌%◌};
+ghost use Rattle.std.specs.Prelude.{◌≡◌, false, cond, ◌<◌};
 ghost use Rattle.model.specs.Lines.{width_of};
 ghost use Rattle.columns.specs.Kept as Kept;
-ghost use Rattle.columns.specs.Kept.{side_by_side, kept_signed, kept_plain, kept_fields};
+ghost use Rattle.columns.specs.Kept.{is_blank, is_negative, kept, kept_fields, shape_at, shape_in};
 
 use model::text::Field;
 
-// The shapes as numbers.
-pub const BLANK: u8 = 0;
+// The shape that is kept of a field: nothing but spaces, a number, a number after a minus, or anything else.
+#[derive(Clone, Copy, PartialEq, Eq)]
+pub enum KeptShape {
+    Blank,
+    Number,
+    Negative,
+    Misshapen,
+}
 
-pub const NUMBER: u8 = 1;
+impl KeptShape {
+    // Nothing but spaces.
+    pub fn is_blank(self) -> bool
+        ensures { result ≡ is_blank self }
+    {
+        self == KeptShape::Blank
+    }
 
-pub const NEGATIVE: u8 = 2;
+    // A number after a minus.
+    pub fn is_negative(self) -> bool
+        ensures { result ≡ is_negative self }
+    {
+        self == KeptShape::Negative
+    }
+}
 
-pub const MISSHAPEN: u8 = 3;
-
-// A field as its shape and its number, which is 0 where there is none: no use of the number has to look at the shape.
+// A field as its shape and its number side by side. The number is 0 where there is none, so that no use of it looks at the shape: with the number in the enum reading took a third longer.
 #[derive(Clone, Copy)]
 pub struct KeptField {
-    pub shape: u8,
+    pub shape: KeptShape,
     pub number: u64,
+}
+
+impl KeptField {
+    // A field of spaces.
+    pub const BLANK: KeptField = KeptField {
+        shape: KeptShape::Blank,
+        number: 0,
+    };
+
+    // Columns that are neither spaces nor a number.
+    pub const MISSHAPEN: KeptField = KeptField {
+        shape: KeptShape::Misshapen,
+        number: 0,
+    };
+
+    // A number, after a minus or not.
+    pub fn signed(negative: bool, number: u64) -> KeptField
+        ensures { result ≡ Kept.signed negative number }
+    {
+        let shape = if negative {
+            KeptShape::Negative
+        } else {
+            KeptShape::Number
+        };
+        KeptField { shape, number }
+    }
+
+    // A number without a minus.
+    pub fn number(number: u64) -> KeptField
+        ensures { result ≡ Kept.signed false number }
+    {
+        KeptField::signed(false, number)
+    }
 }
 
 // The six fields of a line: their shapes in one number, F6 in its last two binary digits, and the number of each.
@@ -34,99 +83,76 @@ pub struct KeptFields {
     pub sixth: u64,
 }
 
+impl KeptFields {
+    // The shape of field j, counted from 0.
+    pub fn shape(&self, j: usize) -> KeptShape
+        requires { j < 6 }
+        ensures { result ≡ shape_in self.now.shapes j }
+    {
+        shape_at((self.shapes >> 2 * (5 - j)) % 4)
+    }
+}
+
 // The number of columns of field j, counted from 0.
 pub fn width(j: usize) -> usize
     ensures { result ≡ width_of j }
 {
-    if j == 5 {
-        return 15;
-    }
-    4
+    if j == 5 { 15 } else { 4 }
 }
 
 // What is kept of a field whose number begins with 0: 0 leads only alone, in the last column.
 pub fn leading_zero(last: bool) -> KeptField
-    ensures { result ≡ cond last (side_by_side Kept.NUMBER 0) (side_by_side Kept.MISSHAPEN 0) }
+    ensures { result ≡ cond last (Kept.signed false 0) Kept.misshapen }
 {
     if last {
-        return KeptField {
-            shape: NUMBER,
-            number: 0,
-        };
-    }
-    KeptField {
-        shape: MISSHAPEN,
-        number: 0,
+        KeptField::number(0)
+    } else {
+        KeptField::MISSHAPEN
     }
 }
 
-// What is kept of a field that may have a minus.
-fn kept_signed(f: Field) -> KeptField
-    ensures { result ≡ kept_signed f }
+// What is kept of a field, where a minus may stand or not.
+fn kept<const SIGNED: bool>(f: Field) -> KeptField
+    ensures { result ≡ kept SIGNED f }
 {
     match f {
-        Field::Blank => KeptField {
-            shape: BLANK,
-            number: 0,
-        },
-        Field::Number(v) => KeptField {
-            shape: NUMBER,
-            number: v,
-        },
-        Field::Negative(v) => KeptField {
-            shape: NEGATIVE,
-            number: v,
-        },
-        Field::Misshapen => KeptField {
-            shape: MISSHAPEN,
-            number: 0,
-        },
-    }
-}
-
-// What is kept of a field where no word asks for a minus.
-fn kept_plain(f: Field) -> KeptField
-    ensures { result ≡ kept_plain f }
-{
-    match f {
-        Field::Blank => KeptField {
-            shape: BLANK,
-            number: 0,
-        },
-        Field::Number(v) => KeptField {
-            shape: NUMBER,
-            number: v,
-        },
-        Field::Negative(_) => KeptField {
-            shape: MISSHAPEN,
-            number: 0,
-        },
-        Field::Misshapen => KeptField {
-            shape: MISSHAPEN,
-            number: 0,
-        },
+        Field::Blank => KeptField::BLANK,
+        Field::Number(v) => KeptField::number(v),
+        Field::Negative(v) => {
+            if SIGNED {
+                KeptField::signed(true, v)
+            } else {
+                KeptField::MISSHAPEN
+            }
+        }
+        Field::Misshapen => KeptField::MISSHAPEN,
     }
 }
 
 // Six shapes in one number.
-pub fn packed(a: u8, b: u8, c: u8, d: u8, e: u8, f: u8) -> u32
+pub fn packed(
+    a: KeptShape,
+    b: KeptShape,
+    c: KeptShape,
+    d: KeptShape,
+    e: KeptShape,
+    f: KeptShape,
+) -> u32
     ensures { result ≡ Kept.packed a b c d e f }
 {
     ((((a as u32 * 4 + b as u32) * 4 + c as u32) * 4 + d as u32) * 4 + e as u32) * 4 + f as u32
 }
 
-// The shape of F4 among six.
-pub fn fourth_shape(shapes: u32) -> u8
-    ensures { result ≡ shapes / 16 % 4 }
+// The shape of a number.
+fn shape_at(n: u32) -> KeptShape
+    ensures { result ≡ shape_at n }
 {
-    (shapes / 16 % 4) as u8
-}
-
-// The shape of F6 among six.
-pub fn sixth_shape(shapes: u32) -> u8
-    ensures { result ≡ shapes % 4 }
-{
-    (shapes % 4) as u8
+    match n {
+        0 => KeptShape::Blank,
+        1 => KeptShape::Number,
+        2 => KeptShape::Negative,
+        _ => KeptShape::Misshapen,
+    }
 }
 
 // Six fields, each kept by itself, as those of a line.
@@ -155,17 +181,11 @@ pub fn six(
 pub fn kept_fields(fs: [Field; 6]) -> KeptFields
     ensures { result ≡ kept_fields fs }
 {
-    let f1 = fs[0];
-    let f2 = fs[1];
-    let f3 = fs[2];
-    let f4 = fs[3];
-    let f5 = fs[4];
-    let f6 = fs[5];
-    let a = kept_plain(f1);
-    let b = kept_plain(f2);
-    let c = kept_plain(f3);
-    let d = kept_plain(f4);
-    let e = kept_plain(f5);
-    let f = kept_signed(f6);
+    let a = kept::<false>(fs[0]);
+    let b = kept::<false>(fs[1]);
+    let c = kept::<false>(fs[2]);
+    let d = kept::<false>(fs[3]);
+    let e = kept::<false>(fs[4]);
+    let f = kept::<true>(fs[5]);
     six(a, b, c, d, e, f)
 }

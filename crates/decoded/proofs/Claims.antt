@@ -1,38 +1,54 @@
--- The claims of rows that follow each other. Assumes nothing.
+-- What rows hold, and the claims of rows that follow each other. Assumes nothing.
 use mathlib.Core.Path.{◌≡◌, refl, ap, ap₂, ◌∙◌}
-use mathlib.Core.Bool.{Bool, true, false, cond}
+use mathlib.Core.Bool.{true}
 use mathlib.Core.List.{List, [], ◌∷◌, ◌++◌}
 use Prim.Native.Nat.{ℕ, zero, suc, ◌+◌, ◌≤◌}
 use native.Mathlib.Omega.{arith}
 use native.Mathlib.Numerals.{add-one}
-use lib.ListN.{length, length-append}
-use lib.Dec.{eqb}
+use lib.ListN.{length, set, length-append}
+use lib.Seq.{get_or-set_other}
+use Rattle.model.specs.declared.text.Word.{Word}
+use Rattle.model.specs.declared.text.Word.TheVariants.{Stop as STOP, Setc as SETC, Copy as COPY, Addw as ADDW, Subw as SUBW, Mulw as MULW, Divf as DIVF, Load as LOAD, Stor as STOR, Jump as JUMP, Bltu as BLTU, Bequ as BEQU, Leas as LEAS, Most as MOST, Strp as STRP, Divm as DIVM, Turn as TURN}
+use Rattle.model.specs.declared.machine.Instruction.{Instruction}
 use Rattle.model.specs.declared.claims.Claim.{Claim}
-use Rattle.model.specs.declared.claims.Claim.TheVariants.{Leas, Most, Strp, Turn}
-use Rattle.model.specs.declared.claims.Line.TheVariants.{Refused as refused_line, Claim as claim_line, Instruction as instruction_line}
-use Rattle.model.specs.declared.answers.Refusal.TheVariants.{ListingLength}
+use Rattle.model.specs.declared.claims.Line.TheVariants.{Claim as claim_line, Instruction as instruction_line}
+use Rattle.model.specs.Writing.{is_taken}
 use Rattle.line_rows.specs.declared.rows.Row.{Row}
-use Rattle.line_rows.specs.Kinds.{REFUSED, LEAS, MOST, STRP, TURN}
-use Rattle.line_rows.specs.Rows.{row_at, with_row}
-use Rattle.line_rows.proofs.WrittenRows.{row_other}
-use Rattle.decoded.specs.Decoded.{instruction_from, stripe_from, claim_from, claims_from, line_of_row}
+use Rattle.line_rows.specs.Rows.{blank, row_at}
+use Rattle.decoded.specs.Decoded.{line_of, line_of_row, instruction_in, instruction_from, claim_in, claim_from, claims_from}
 
 -- where a row holds a claim, it is this one
 pub claim-held : (r : Row) (x : Claim) → line_of_row r ≡ claim_line x → claim_from r ≡ x
-unfolding line_of_row claim_from
-claim-held r x e = go (eqb r.kind STRP) (eqb r.kind LEAS) (eqb r.kind MOST) (eqb r.kind REFUSED) (eqb r.kind TURN) e
-  where
-    go : (a b c d t : Bool)
-        → cond a (claim_line (Strp (stripe_from r))) (cond b (claim_line (Leas r.first r.sixth)) (cond c (claim_line (Most r.first r.sixth)) (cond d (refused_line ListingLength) (cond t (claim_line (Turn r.first)) (instruction_line (instruction_from r)))))) ≡ claim_line x
-        → cond a (Strp (stripe_from r)) (cond b (Leas r.first r.sixth) (cond c (Most r.first r.sixth) (Turn r.first))) ≡ x
-    go true b c d t h = cc
-    go false true c d t h = cc
-    go false false true d t h = cc
-    go false false false true t h = let z : ◌≡◌ {A = ℕ} 0 1 = cc in absurd (omega arith)
-    go false false false false true h = cc
-    go false false false false false h = let z : ◌≡◌ {A = ℕ} 0 1 = cc in absurd (omega arith)
+claim-held r x e = ap (claim_in r) e
 
-module _ (rows : List ℕ) (from : ℕ) where
+-- where a row holds an instruction, it is this one
+pub instruction-held : (r : Row) (i : Instruction) → line_of_row r ≡ instruction_line i → instruction_from r ≡ i
+instruction-held r i e = ap (instruction_in r) e
+
+-- a row holds a claim or an instruction
+taken : (w : Word) (r : Row) → is_taken (line_of w r) ≡ true
+taken STOP r = refl
+taken SETC r = refl
+taken COPY r = refl
+taken ADDW r = refl
+taken SUBW r = refl
+taken MULW r = refl
+taken DIVF r = refl
+taken LOAD r = refl
+taken STOR r = refl
+taken JUMP r = refl
+taken BLTU r = refl
+taken BEQU r = refl
+taken LEAS r = refl
+taken MOST r = refl
+taken STRP r = refl
+taken DIVM r = refl
+taken TURN r = refl
+
+pub row-taken : (r : Row) → is_taken (line_of_row r) ≡ true
+row-taken r = taken r.word r
+
+module _ (rows : List Row) (from : ℕ) where
   pub claims-none : claims_from rows from 0 ≡ []
   unfolding claims_from
   claims-none = refl
@@ -49,8 +65,8 @@ module _ (rows : List ℕ) (from : ℕ) where
   claims-count (suc n) = length-append (claims_from rows from n) _ ∙ ap (λ (m : ℕ). m + 1) (claims-count n) ∙ add-one n
 
   -- a row that is written behind them changes none
-  pub claims-kept : (k : ℕ) (r : Row) (n : ℕ) → from + n ≤ k → claims_from (with_row rows k r) from n ≡ claims_from rows from n
+  pub claims-kept : (k : ℕ) (r : Row) (n : ℕ) → from + n ≤ k → claims_from (set rows k r) from n ≡ claims_from rows from n
   unfolding claims_from
   claims-kept k r zero h = refl
   claims-kept k r (suc n) h =
-      ap₂ (λ (cs : List Claim) (x : Row). cs ++ (claim_from x ∷ [])) (claims-kept k r n (omega arith)) (row_other rows k r (from + n) (λ e. omega arith))
+      ap₂ (λ (cs : List Claim) (x : Row). cs ++ (claim_from x ∷ [])) (claims-kept k r n (omega arith)) (get_or-set_other rows k (from + n) r blank (λ e. omega arith))

@@ -1,2 +1,1 @@
-pub mod RowInstructions
 pub mod Claims

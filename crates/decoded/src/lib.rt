@@ -1,23 +1,21 @@
 // What a row holds.
 #![tactic(auto)]
 
-ghost use Rattle.std.specs.Prelude.{◌≡◌, ◌+◌, ◌*◌, ◌%◌, ◌≤◌, length};
+ghost use Rattle.std.specs.Prelude.{◌≡◌, ◌%◌, ◌<◌, [], ◌∷◌, length, MatchOption};
 ghost use Rattle.model.specs.Limits.{modulus};
-ghost use Rattle.model.specs.Instructions.{has_target};
+ghost use Rattle.model.specs.Instructions.{targets, is_stop};
 ghost use Rattle.model.specs.Lines.{width_from, table_from};
 ghost use Rattle.line_rows.specs.Rows.{row_at};
-ghost use Rattle.decoded.specs.Decoded.{operand_in, operand_of, branch_from, access_from, arithmetic_from, instruction_from, stripe_from, claim_from};
+ghost use Rattle.decoded.specs.Decoded.{operand_in, instruction_from, stripe_from, claim_from};
 
-use line_rows::kinds::{
-    ADDW, BLTU, COPY, DIVF, DIVM, JUMP, LEAS, LOAD, MOST, MULW, SETC, STOP, STOR, STRP, SUBW,
-};
-use line_rows::rows::{Row, index_at, kind_at, number_at, row_at};
+use line_rows::rows::Row;
 use model::claims::{Claim, Stripe};
 use model::limits::MODULUS;
 use model::machine::{Instruction, Operand, Table, Width};
+use model::text::Word;
 
 // The low 32 bits: every number that a register can hold is kept whole.
-pub fn word(n: u64) -> u32
+fn word(n: u64) -> u32
     ensures { result ≡ n % modulus }
 {
     (n % MODULUS) as u32
@@ -38,151 +36,111 @@ fn byte(n: u64) -> u8
 }
 
 // The width of so many bytes.
-pub fn width_from(n: u64) -> Width
+fn width_from(n: u64) -> Width
     ensures { result ≡ width_from n }
 {
-    if n == 1 {
-        return Width::One;
+    match n {
+        1 => Width::One,
+        2 => Width::Two,
+        _ => Width::Four,
     }
-    if n == 2 {
-        return Width::Two;
-    }
-    Width::Four
 }
 
 // The table of a number.
-pub fn table_from(n: u64) -> Table
+fn table_from(n: u64) -> Table
     ensures { result ≡ table_from n }
 {
-    if n == 0 {
-        return Table::Trays;
+    match n {
+        0 => Table::Trays,
+        _ => Table::Results,
     }
-    Table::Results
 }
 
 // The operand of a choice and a number.
 fn operand_in(chosen: u64, n: u64) -> Operand
     ensures { result ≡ operand_in chosen n }
 {
-    if chosen == 0 {
-        return Operand::Variable(n as usize);
+    match chosen {
+        0 => Operand::Variable(n as usize),
+        _ => Operand::Number(word(n)),
     }
-    Operand::Number(word(n))
-}
-
-// The operand that the k-th row holds.
-pub fn operand_at(rows: &[u64], k: usize) -> Operand
-    requires { k * 8 + 8 ≤ length rows.now }
-    ensures { result ≡ operand_of (row_at rows.now k) }
-{
-    operand_in(number_at(rows, k, 5), number_at(rows, k, 6))
-}
-
-// The instruction of a row, from JUMP on.
-fn branch_from(r: Row) -> Instruction
-    ensures { result ≡ branch_from r }
-{
-    if r.kind == JUMP {
-        return Instruction::Jump {
-            t: r.fourth as usize,
-        };
-    }
-    let i = r.second as usize;
-    let t = r.fourth as usize;
-    let o = operand_in(r.fifth, r.sixth);
-    if r.kind == BLTU {
-        return Instruction::Bltu { i, t, o };
-    }
-    if r.kind == DIVM {
-        return Instruction::Divm {
-            q: r.first as usize,
-            i,
-            r: r.third as usize,
-            o,
-        };
-    }
-    Instruction::Bequ { i, t, o }
-}
-
-// The instruction of a row, from LOAD on.
-fn access_from(r: Row) -> Instruction
-    ensures { result ≡ access_from r }
-{
-    let first = r.first as usize;
-    let w = width_from(r.second);
-    let table = table_from(r.third);
-    let a = r.fourth as usize;
-    let i = r.fifth as usize;
-    let k = r.sixth as usize;
-    if r.kind == LOAD {
-        return Instruction::Load {
-            d: first,
-            w,
-            table,
-            a,
-            i,
-            k,
-        };
-    }
-    if r.kind == STOR {
-        return Instruction::Stor {
-            v: first,
-            w,
-            a,
-            i,
-            k,
-        };
-    }
-    branch_from(r)
-}
-
-// The instruction of a row, from ADDW on.
-fn arithmetic_from(r: Row) -> Instruction
-    ensures { result ≡ arithmetic_from r }
-{
-    let d = r.first as usize;
-    let i = r.second as usize;
-    let o = operand_in(r.fifth, r.sixth);
-    if r.kind == ADDW {
-        return Instruction::Addw { d, i, o };
-    }
-    if r.kind == SUBW {
-        return Instruction::Subw { d, i, o };
-    }
-    if r.kind == MULW {
-        return Instruction::Mulw { d, i, o };
-    }
-    if r.kind == DIVF {
-        return Instruction::Divf { d, i, o };
-    }
-    access_from(r)
 }
 
 // The instruction of a row.
-pub fn instruction_from(r: Row) -> Instruction
-    ensures { result ≡ instruction_from r }
+pub fn instruction_from(r: &Row) -> Instruction
+    ensures { result ≡ instruction_from r.now }
 {
-    if r.kind == STOP {
-        return Instruction::Stop;
-    }
-    if r.kind == SETC {
-        return Instruction::Setc {
+    match r.word {
+        Word::Stop => Instruction::Stop,
+        Word::Setc => Instruction::Setc {
             d: r.first as usize,
             c: word(r.sixth),
-        };
-    }
-    if r.kind == COPY {
-        return Instruction::Copy {
+        },
+        Word::Copy => Instruction::Copy {
             d: r.first as usize,
             i: r.second as usize,
-        };
+        },
+        Word::Addw => Instruction::Addw {
+            d: r.first as usize,
+            i: r.second as usize,
+            o: operand_in(r.fifth, r.sixth),
+        },
+        Word::Subw => Instruction::Subw {
+            d: r.first as usize,
+            i: r.second as usize,
+            o: operand_in(r.fifth, r.sixth),
+        },
+        Word::Mulw => Instruction::Mulw {
+            d: r.first as usize,
+            i: r.second as usize,
+            o: operand_in(r.fifth, r.sixth),
+        },
+        Word::Divf => Instruction::Divf {
+            d: r.first as usize,
+            i: r.second as usize,
+            o: operand_in(r.fifth, r.sixth),
+        },
+        Word::Load => Instruction::Load {
+            d: r.first as usize,
+            w: width_from(r.second),
+            table: table_from(r.third),
+            a: r.fourth as usize,
+            i: r.fifth as usize,
+            k: r.sixth as usize,
+        },
+        Word::Stor => Instruction::Stor {
+            v: r.first as usize,
+            w: width_from(r.second),
+            a: r.fourth as usize,
+            i: r.fifth as usize,
+            k: r.sixth as usize,
+        },
+        Word::Jump => Instruction::Jump {
+            t: r.fourth as usize,
+        },
+        Word::Bltu => Instruction::Bltu {
+            i: r.second as usize,
+            t: r.fourth as usize,
+            o: operand_in(r.fifth, r.sixth),
+        },
+        Word::Divm => Instruction::Divm {
+            q: r.first as usize,
+            i: r.second as usize,
+            r: r.third as usize,
+            o: operand_in(r.fifth, r.sixth),
+        },
+        // A row of a claim is never asked for an instruction.
+        Word::Bequ | Word::Leas | Word::Most | Word::Strp | Word::Turn => Instruction::Bequ {
+            i: r.second as usize,
+            t: r.fourth as usize,
+            o: operand_in(r.fifth, r.sixth),
+        },
     }
-    arithmetic_from(r)
 }
 
 // The stripe of a row.
-fn stripe_from(r: Row) -> Stripe
-    ensures { result ≡ stripe_from r }
+fn stripe_from(r: &Row) -> Stripe
+    ensures { result ≡ stripe_from r.now }
 {
     Stripe {
         x: byte(r.first),
@@ -194,59 +152,56 @@ fn stripe_from(r: Row) -> Stripe
     }
 }
 
-// The claim that the k-th row holds, where it holds one. Only the numbers of its kind are read.
-pub fn claim_at(rows: &[u64], k: usize) -> Claim
-    requires { k * 8 + 8 ≤ length rows.now }
-    ensures { result ≡ claim_from (row_at rows.now k) }
+// The claim of a row that holds one.
+fn claim_from(r: &Row) -> Claim
+    ensures { result ≡ claim_from r.now }
 {
-    let kind = kind_at(rows, k);
-    if kind == STRP {
-        return Claim::Strp(stripe_from(row_at(rows, k)));
+    match r.word {
+        Word::Strp => Claim::Strp(stripe_from(r)),
+        Word::Leas => Claim::Leas {
+            v: r.first as usize,
+            least: r.sixth,
+        },
+        Word::Most => Claim::Most {
+            v: r.first as usize,
+            most: r.sixth,
+        },
+        _ => Claim::Turn {
+            register: r.first as usize,
+        },
     }
-    let v = index_at(rows, k, 1);
-    let bound = number_at(rows, k, 6);
-    if kind == LEAS {
-        return Claim::Leas { v, least: bound };
-    }
-    if kind == MOST {
-        return Claim::Most { v, most: bound };
-    }
-    Claim::Turn { register: v }
 }
 
-// Whether the instruction of a row names a target: every kind but these does, in F4.
-pub fn has_target(r: Row) -> bool
-    ensures { result ≡ has_target (instruction_from r) }
+// The claim of the k-th row.
+pub fn claim_at(rows: &[Row], k: usize) -> Claim
+    requires { k < length rows.now }
+    ensures { result ≡ claim_from (row_at rows.now k) }
 {
-    if r.kind == STOP {
-        return false;
+    claim_from(&rows[k])
+}
+
+// Whether the instruction of a row is STOP.
+pub fn is_stop(r: &Row) -> bool
+    ensures { result ≡ is_stop (instruction_from r.now) }
+{
+    matches!(r.word, Word::Stop)
+}
+
+// The target of the instruction of a row, which stands in F4; None for the words that name none.
+pub fn target_from(r: &Row) -> Option<usize>
+    ensures { MatchOption result (targets (instruction_from r.now) ≡ []) (λ t. targets (instruction_from r.now) ≡ t ∷ []) }
+{
+    match r.word {
+        Word::Stop
+        | Word::Setc
+        | Word::Copy
+        | Word::Addw
+        | Word::Subw
+        | Word::Mulw
+        | Word::Divf
+        | Word::Load
+        | Word::Stor
+        | Word::Divm => None,
+        _ => Some(r.fourth as usize),
     }
-    if r.kind == SETC {
-        return false;
-    }
-    if r.kind == COPY {
-        return false;
-    }
-    if r.kind == ADDW {
-        return false;
-    }
-    if r.kind == SUBW {
-        return false;
-    }
-    if r.kind == MULW {
-        return false;
-    }
-    if r.kind == DIVF {
-        return false;
-    }
-    if r.kind == LOAD {
-        return false;
-    }
-    if r.kind == STOR {
-        return false;
-    }
-    if r.kind == DIVM {
-        return false;
-    }
-    true
 }

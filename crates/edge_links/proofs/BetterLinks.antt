@@ -1,45 +1,83 @@
--- Of two links between the same variables the better one is enough. Assumes nothing.
-use mathlib.Core.Path.{◌≡◌, ap, sym, subst, ◌∙◌}
-use mathlib.Core.Bool.{Bool, true, ◌||◌}
-use Prim.Native.Nat.{ℕ, ◌<◌, ◌≤◌}
-use native.Mathlib.Decide.{ℕ_discrete}
-use native.Mathlib.Omega.{arith}
+-- What a link that is added shows to a test that a better link passes too. Assumes nothing.
+use Rattle.std.proofs.Common.{Some, position, ◌≡◌, refl, ap, sym, ◌∙◌, ℕ, zero, suc, ◌+◌, ◌<◌, Bool, true, false, ◌&&◌, ◌||◌, List, [], ◌∷◌, ◌++◌, length, get_or, set, arith}
+use Rattle.std.proofs.Math.Bool.{or-false, or_assoc, or_comm, false≢true}
+use Rattle.std.proofs.lemmas.List.Quantifiers.{position-Some}
+use borrow.Author.Tests.{leb-true, leb-false, eqb-true}
+use lib.Dec.{leb, eqb}
 use Rattle.model.specs.declared.claims.Stripe.{Stripe}
-use Rattle.model.proofs.Tests.{or_cases}
-use Rattle.facts.specs.Search.{some_below}
-use Rattle.edge_links.specs.Links.{Better, Lasting}
-use Rattle.facts.proofs.Search.{or_left, or_right, same_tests, below-shows, below-hit}
+use Rattle.model.specs.Lists.{some}
+use Rattle.model.specs.Follows.{is_link}
+use Rattle.model.proofs.Tests.{and_left, and_right}
+use Rattle.edge_links.specs.Links.{between, Added, Gathered}
 
-module _ (r : ℕ → Stripe) (s : Stripe) (p : Stripe → Bool) (lasting : Lasting p) where
-  -- a link that is left out because a better one stands
-  pub left_out : (j k : ℕ) → j < k → Better (r j) s → some_below (λ (i : ℕ). p (r i)) k ≡ (some_below (λ (i : ℕ). p (r i)) k || p s)
-  left_out j k h b =
-      let old : Bool = some_below (λ (i : ℕ). p (r i)) k in
-      same_tests old (old || p s) (or_left old (p s))
-      (λ e. or_cases old (p s) e (λ f. f) (λ f. below-hit (λ (i : ℕ). p (r i)) k j h (lasting s (r j) b f)))
+-- what shows a test adds to it nothing
+or-shown : (a b c : Bool) → (c ≡ true → a ≡ true) → (a || b) ≡ ((a || b) || c)
+or-shown true b c f = refl
+or-shown false b false f = sym (or-false b)
+or-shown false b true f = absurd (false≢true (f refl))
 
-  -- a link written at j, where there was a worse one or none
-  module _ (r' : ℕ → Stripe) (j k k' : ℕ) (inside : j < k') (more : k ≤ k') (others : (i : ℕ) → i < k' → (i ≡ j → ⊥) → i < k)
-      (same : (i : ℕ) → (i ≡ j → ⊥) → r' i ≡ r i) (there : r' j ≡ s) (better : j < k → Better s (r j)) where
-    abbrev new : ℕ → Bool
-    new i = p (r' i)
+-- a test that another shows, in its place
+or-showing : (a b c : Bool) → (a ≡ true → c ≡ true) → (c || b) ≡ ((a || b) || c)
+or-showing true b true f = refl
+or-showing true b false f = absurd (false≢true (f refl))
+or-showing false b c f = or_comm c b
 
-    abbrev old : ℕ → Bool
-    old i = p (r i)
+module _ {A : Type 0} (p : A → Bool) where
+  -- one more element
+  pub some-more : (xs : List A) (x : A) → some p (xs ++ (x ∷ [])) ≡ (some p xs || p x)
+  unfolding some
+  some-more [] x = or-false (p x)
+  some-more (y ∷ xs) x = ap (λ (b : Bool). p y || b) (some-more xs x) ∙ sym (or_assoc (p y) (some p xs) (p x))
 
-    at_j : p s ≡ true → some_below new k' ≡ true
-    at_j e = below-hit new k' j inside (ap p there ∙ e)
+  -- an element that shows nothing more than another
+  pub some-shown : (xs : List A) (i : ℕ) (d x : A) → i < length xs → (p x ≡ true → p (get_or xs i d) ≡ true) → some p xs ≡ (some p xs || p x)
+  unfolding some
+  some-shown [] i d x h f = absurd (omega arith)
+  some-shown (y ∷ xs) zero d x h f = or-shown (p y) (some p xs) (p x) f
+  some-shown (y ∷ xs) (suc i) d x h f = ap (λ (b : Bool). p y || b) (some-shown xs i d x (omega arith) f) ∙ sym (or_assoc (p y) (some p xs) (p x))
 
-    forth : (i : ℕ) → i < k' → new i ≡ true → Dec (i ≡ j) → (some_below old k || p s) ≡ true
-    forth i h e (yes d) = or_right (some_below old k) (p s) (sym (ap p there) ∙ subst (λ (t : ℕ). new t ≡ true) d e)
-    forth i h e (no d) = or_left (some_below old k) (p s) (below-hit old k i (others i h d) (sym (ap p (same i d)) ∙ e))
+  -- an element in the place of one that shows nothing more
+  pub some-set : (xs : List A) (i : ℕ) (d x : A) → i < length xs → (p (get_or xs i d) ≡ true → p x ≡ true) → some p (set xs i x) ≡ (some p xs || p x)
+  unfolding some
+  some-set [] i d x h f = absurd (omega arith)
+  some-set (y ∷ xs) zero d x h f = or-showing (p y) (some p xs) (p x) f
+  some-set (y ∷ xs) (suc i) d x h f = ap (λ (b : Bool). p y || b) (some-set xs i d x (omega arith) f) ∙ sym (or_assoc (p y) (some p xs) (p x))
 
-    back : (i : ℕ) → i < k → old i ≡ true → Dec (i ≡ j) → some_below new k' ≡ true
-    back i h e (yes d) = at_j (lasting (r j) s (better (subst (λ (t : ℕ). t < k) d h)) (subst (λ (t : ℕ). old t ≡ true) d e))
-    back i h e (no d) = below-hit new k' i (omega arith) (ap p (same i d) ∙ e)
+-- the i-th link stands between the variables of s
+module _ (links : List Stripe) (s d : Stripe) (i : ℕ) (found : position (between s) links ≡ Some i) where
+  abbrev t : Stripe
+  t = get_or links i d
 
-    pub written : some_below (λ (i : ℕ). p (r' i)) k' ≡ (some_below (λ (i : ℕ). p (r i)) k || p s)
-    written =
-        same_tests (some_below new k') (some_below old k || p s)
-        (below-shows new k' (λ i h e. forth i h e (ℕ_discrete i j)))
-        (λ e. or_cases (some_below old k) (p s) e (below-shows old k (λ i h f. back i h f (ℕ_discrete i j))) at_j)
+  inside : i < length links
+  inside = (position-Some (between s) links i d found).0
+
+  same : between s t ≡ true
+  same = (position-Some (between s) links i d found).1
+
+  x : t.x ≡ s.x
+  x = eqb-true t.x s.x (and_left (eqb t.x s.x) (eqb t.y s.y) same)
+
+  y : t.y ≡ s.y
+  y = eqb-true t.y s.y (and_right (eqb t.x s.x) (eqb t.y s.y) same)
+
+  -- it is enough
+  pub left-out : leb (s.plus + t.minus) (t.plus + s.minus) ≡ true → Added links links s
+  left-out e p lasting = some-shown p links i d s inside (lasting s t (record { x = x; y = y; bound = leb-true _ _ e }))
+
+  -- s is better
+  pub replaced : leb (s.plus + t.minus) (t.plus + s.minus) ≡ false → Added (set links i s) links s
+  replaced e p lasting =
+      let worse : t.plus + s.minus < s.plus + t.minus = leb-false _ _ e in
+      some-set p links i d s inside (lasting t s (record { x = sym x; y = sym y; bound = omega arith }))
+
+-- one more stripe
+module _ (links ss : List Stripe) (s : Stripe) (gathered : Gathered links ss) where
+  pub gathered-passed : is_link s ≡ false → Gathered links (ss ++ (s ∷ []))
+  gathered-passed e p lasting =
+      let q : Stripe → Bool = λ (t : Stripe). is_link t && p t in
+      gathered p lasting ∙ sym (some-more q ss s ∙ ap (λ (b : Bool). some q ss || (b && p s)) e ∙ or-false (some q ss))
+
+  pub gathered-added : (new : List Stripe) → is_link s ≡ true → Added new links s → Gathered new (ss ++ (s ∷ []))
+  gathered-added new e added p lasting =
+      let q : Stripe → Bool = λ (t : Stripe). is_link t && p t in
+      added p lasting ∙ ap (λ (b : Bool). b || p s) (gathered p lasting) ∙ sym (some-more q ss s ∙ ap (λ (b : Bool). some q ss || (b && p s)) e)

@@ -1,4 +1,1 @@
-pub mod WrittenLink
 pub mod BetterLinks
-pub mod AddedLink
-pub mod LinkRows

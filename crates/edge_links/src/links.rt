@@ -1,146 +1,70 @@
-// The links along an edge as rows of four numbers, of two between the same variables the better one.
-ghost use Rattle.std.specs.Prelude.{◌≡◌, ◌+◌, ◌*◌, ◌≤◌, ◌<◌, leb, get_or};
-ghost use Rattle.model.specs.Transfer.{apart};
-ghost use Rattle.model.specs.Follows.{is_link};
-ghost use Rattle.facts.specs.Sizes.{greatest_part, edge_stripes};
-ghost use Rattle.facts.specs.StripeRows.{SizedRows, stripe_at};
-ghost use Rattle.edge_links.specs.Links.{SizedLinks, link_at, replaces, with_link, Added, Grown, Gathered};
+// The links among the stripes along an edge, of two between the same variables the better one.
+ghost use Rattle.std.specs.Prelude.{◌≡◌, ◌+◌, ◌<◌, ◌≤◌, leb, length, position};
+ghost use Rattle.std.specs.List.{All};
+ghost use Rattle.model.specs.Follows as Model;
+ghost use Rattle.facts.specs.Sizes.{edge_stripes, Small};
+ghost use Rattle.edge_links.specs.Links.{between, Added, Gathered};
 
-use facts::sizes::{EDGE_STRIPES, STRIPE_NUMBERS};
+use facts::known::Known;
+use facts::stripes::StripeList;
+use model::claims::Stripe;
 use model::limits::BLANK_VARIABLE;
 
-// A link is a row of four numbers: v, u, and the two parts of its bound.
-pub const LINK_NUMBERS: usize = EDGE_STRIPES * 4;
-
-// Whether the i-th row is a link.
-fn is_link(stripes: &[u64; STRIPE_NUMBERS], i: usize) -> bool
-    requires { i < edge_stripes }
-    ensures { result ≡ is_link (stripe_at stripes.now i) }
-{
-    let at = i * 6;
-    (stripes[at + 1] == 1) & (stripes[at + 3] == BLANK_VARIABLE as u64)
+// What is known along an edge, and the links among its stripes.
+#[derive(Clone, Copy)]
+pub struct Linked<'a> {
+    pub known: &'a Known,
+    pub links: &'a StripeList,
+    pub ghost gathered: { Gathered links.now known.now.stripes },
 }
 
-// Writes the i-th link.
-fn write_link(links: &mut [u64; LINK_NUMBERS], i: usize, v: u64, u: u64, plus: u64, minus: u64)
-    requires { i < edge_stripes }
-    ensures { links.new ≡ with_link links.old i v u plus minus }
+// Whether the stripe is a link: its y can be replaced by its x.
+fn is_link(s: &Stripe) -> bool
+    ensures { result ≡ Model.is_link s.now }
 {
-    let at = i * 4;
-    links[at] = v;
-    links[at + 1] = u;
-    links[at + 2] = plus;
-    links[at + 3] = minus;
+    (s.a == 1) & (usize::from(s.z) == BLANK_VARIABLE)
 }
 
-// The place of a link from v to u among the first k, or k where there is none.
-fn place(links: &[u64; LINK_NUMBERS], k: usize, v: u64, u: u64) -> usize
-    requires { k ≤ edge_stripes }
-    ensures { (result ≤ k) × (result < k → (get_or links.now (result * 4) 0 ≡ v) × (get_or links.now (result * 4 + 1) 0 ≡ u)) }
+// Whether t has a bound of at least that of s.
+fn enough(t: &Stripe, s: &Stripe) -> bool
+    requires { Small t.now × Small s.now }
+    ensures { result ≡ leb (s.now.plus + t.now.minus) (t.now.plus + s.now.minus) }
 {
-    let mut i = 0;
-    while i < k {
-        let at = i * 4;
-        let p = links[at];
-        let q = links[at + 1];
-        if p == v {
-            if q == u {
-                return i;
+    s.plus + t.minus <= t.plus + s.minus
+}
+
+// The place of the link between the same variables as s.
+fn place(links: &[Stripe], s: &Stripe) -> Option<usize>
+    ensures { result ≡ position (between s.now) links.now }
+{
+    links.iter().position(|l| (l.x == s.x) & (l.y == s.y))
+}
+
+// Adds a link; where one stands between the same variables, the better of the two takes its place.
+fn add(links: &mut StripeList, s: &Stripe)
+    requires room { length links.old < edge_stripes }
+    requires small { Small s.now }
+    ensures added { Added links.new links.old s.now }
+    ensures few { length links.new ≤ length links.old + 1 }
+{
+    match place(links.as_slice(), s) {
+        Some(i) => {
+            if !enough(&links.as_slice()[i], s) {
+                links.set(i, *s);
             }
         }
-        i += 1;
+        None => links.push(*s),
     }
-    k
 }
 
-// Whether the i-th link has a bound of at least plus - minus.
-fn enough(links: &[u64; LINK_NUMBERS], i: usize, plus: u64, minus: u64) -> bool
-    requires sized_links { SizedLinks links.now }
-    requires i_lt_edge_stripes { (i < edge_stripes) × (plus ≤ greatest_part) × (minus ≤ greatest_part) }
-    ensures { result ≡ leb (plus + get_or links.now (i * 4 + 3) 0) (get_or links.now (i * 4 + 2) 0 + minus) }
+// Writes the links along an edge.
+pub fn gather(known: &Known, links: &mut StripeList)
+    ensures { Gathered links.new known.now.stripes }
 {
-    let at = i * 4;
-    plus + links[at + 3] <= links[at + 2] + minus
-}
-
-// Adds the link from v to u to the first k; where one stands between the two, the better one takes its place.
-fn add_link(
-    links: &mut [u64; LINK_NUMBERS],
-    k: usize,
-    v: u64,
-    u: u64,
-    plus: u64,
-    minus: u64,
-) -> usize
-    requires sized_links { SizedLinks links.old }
-    requires k_lt_edge_stripes { (k < edge_stripes) × (v ≤ greatest_part) × (u ≤ greatest_part) × (plus ≤ greatest_part) × (minus ≤ greatest_part) }
-    ensures upper_bound { (result ≤ k + 1) × SizedLinks links.new }
-    ensures added { Added links.new result links.old k (apart u v plus minus) }
-{
-    let at = place(links, k, v, u);
-    if at < k {
-        if enough(links, at, plus, minus) {
-            return k;
+    links.clear();
+    for s in known.stripes.as_slice() {
+        if is_link(s) {
+            add(links, s);
         }
-        write_link(links, at, v, u, plus, minus);
-        return k;
     }
-    write_link(links, k, v, u, plus, minus);
-    k + 1
-}
-
-// Adds the i-th row to the first k links, if it is a link.
-fn add_row<'a>(
-    stripes: &'a [u64; STRIPE_NUMBERS],
-    i: usize,
-    links: &'a mut [u64; LINK_NUMBERS],
-    k: usize,
-) -> usize
-    requires sized_rows { SizedRows stripes.now }
-    requires sized_links { SizedLinks links.old }
-    requires i_lt_edge_stripes { (i < edge_stripes) × (k < edge_stripes) }
-    ensures upper_bound { (result ≤ k + 1) × SizedLinks links.new }
-    ensures grown { Grown links.new result links.old k (stripe_at stripes.now i) }
-{
-    if is_link(stripes, i) {
-        let at = i * 6;
-        return add_link(
-            links,
-            k,
-            stripes[at + 2],
-            stripes[at],
-            stripes[at + 4],
-            stripes[at + 5],
-        );
-    }
-    k
-}
-
-// Gathers the links among the first count stripes, and answers how many it keeps.
-pub fn gather<'a>(
-    stripes: &'a [u64; STRIPE_NUMBERS],
-    count: usize,
-    links: &'a mut [u64; LINK_NUMBERS],
-) -> usize
-    requires sized_rows { SizedRows stripes.now }
-    requires sized_links { SizedLinks links.old }
-    requires count_le_edge_stripes { count ≤ edge_stripes }
-    ensures { Gathered links.new result stripes.now count × SizedLinks links.new × (result ≤ edge_stripes) }
-{
-    let mut k = 0;
-    let mut i = 0;
-    while i < count {
-        k = add_row(stripes, i, links, k);
-        i += 1;
-    }
-    k
-}
-
-// Whether the i-th link replaces the goal's y or z.
-pub fn touches(links: &[u64; LINK_NUMBERS], i: usize, y: u64, z: u64) -> bool
-    requires { i < edge_stripes }
-    ensures { result ≡ replaces (link_at links.now i) y z }
-{
-    let v = links[i * 4];
-    (v == y) | (v == z)
 }

@@ -1,120 +1,23 @@
 // What an edge does to the stripes, a function for each rule.
 #![tactic(auto)]
 
-ghost use Rattle.std.specs.Prelude.{◌≡◌, cond, List, ◌∷◌, ◌<◌, ◌≤◌, eqb};
-ghost use Rattle.model.specs.declared.claims.Stripe.{Stripe};
+ghost use Rattle.std.specs.Prelude.{◌≡◌, cond, ◌∷◌, ◌<◌, ◌≤◌, eqb};
 ghost use Rattle.model.specs.declared.machine.Operand.TheVariants.{Number};
-ghost use Rattle.model.specs.Limits.{variables, MAX, greatest_bound, today};
+ghost use Rattle.model.specs.Limits.{variables, MAX, today};
 ghost use Rattle.model.specs.Transfer as Model;
 ghost use Rattle.model.specs.Transfer.{by_number, sum_stripes, difference_stripes, product_stripes, less_stripes, not_less_stripes, equal_stripes, stripes_along};
 ghost use Rattle.model.specs.Limited.{OperandLimited, ArithmeticLimited, Limited};
-ghost use Rattle.facts.specs.Known.{ranges_of, Small, Ends};
-ghost use Rattle.stripe_plans.specs.Plans.{Does};
-ghost use Rattle.edge_ranges.specs.Branches.{ordered_stripes, matched_stripes};
 
-use edge_ranges::ranges_at;
+use facts::point::PointFacts;
+use facts::stripes::StripeList;
+use kept_stripes::{
+    all, all_shifted, both_dropped, dropped, one_and_all, one_and_dropped, two_and_all,
+    two_and_dropped,
+};
 use model::claims::Stripe;
-use model::limits::{BLANK_VARIABLE, GREATEST_SCALE, VARIABLES};
+use model::limits::{BLANK_VARIABLE, GREATEST_SCALE};
 use model::machine::{Edge, Instruction, Operand};
 use range_rules::{difference_fits, product_fits, sum_fits};
-use stripe_plans::{AddedStripes, KeptStripes, Plan};
-
-// All stripes kept.
-fn all() -> Plan
-    ensures { Does result (λ (ss : List Stripe). ss) }
-{
-    Plan {
-        kept: KeptStripes::All,
-        added: AddedStripes::Nothing,
-    }
-}
-
-// The stripes that do not name d.
-fn dropped(d: usize) -> Plan
-    requires { d < variables }
-    ensures { Does result (λ (ss : List Stripe). Model.dropped d ss) }
-{
-    Plan {
-        kept: KeptStripes::Without { d: d as u8 },
-        added: AddedStripes::Nothing,
-    }
-}
-
-// The stripes that name neither d nor e.
-fn both_dropped(d: usize, e: usize) -> Plan
-    requires { (d < variables) × (e < variables) }
-    ensures { Does result (λ (ss : List Stripe). Model.dropped e (Model.dropped d ss)) }
-{
-    Plan {
-        kept: KeptStripes::WithoutBoth {
-            d: d as u8,
-            e: e as u8,
-        },
-        added: AddedStripes::Nothing,
-    }
-}
-
-// One stripe in front of all.
-fn one_and_all(s: Stripe) -> Plan
-    requires { Small greatest_bound s }
-    ensures { Does result (λ (ss : List Stripe). s ∷ ss) }
-{
-    Plan {
-        kept: KeptStripes::All,
-        added: AddedStripes::One { s },
-    }
-}
-
-// Two stripes in front of all.
-fn two_and_all(s: Stripe, t: Stripe) -> Plan
-    requires { Small greatest_bound s × Small greatest_bound t }
-    ensures { Does result (λ (ss : List Stripe). s ∷ t ∷ ss) }
-{
-    Plan {
-        kept: KeptStripes::All,
-        added: AddedStripes::Two { s, t },
-    }
-}
-
-// One stripe in front of those that do not name d.
-fn one_and_dropped(s: Stripe, d: usize) -> Plan
-    requires small { Small greatest_bound s }
-    requires d_lt_variables { d < variables }
-    ensures { Does result (λ (ss : List Stripe). s ∷ Model.dropped d ss) }
-{
-    Plan {
-        kept: KeptStripes::Without { d: d as u8 },
-        added: AddedStripes::One { s },
-    }
-}
-
-// Two stripes in front of those that do not name d.
-fn two_and_dropped(s: Stripe, t: Stripe, d: usize) -> Plan
-    requires small { Small greatest_bound s × Small greatest_bound t }
-    requires d_lt_variables { d < variables }
-    ensures { Does result (λ (ss : List Stripe). s ∷ t ∷ Model.dropped d ss) }
-{
-    Plan {
-        kept: KeptStripes::Without { d: d as u8 },
-        added: AddedStripes::Two { s, t },
-    }
-}
-
-// All stripes once d has become d + up - down.
-fn all_shifted(d: usize, up: u64, down: u64) -> Plan
-    requires d_lt_variables { d < variables }
-    requires up_bound { (up ≤ MAX) × (down ≤ MAX) }
-    ensures { Does result (λ (ss : List Stripe). Model.all_shifted today d up down ss) }
-{
-    Plan {
-        kept: KeptStripes::Shifted {
-            d: d as u8,
-            up,
-            down,
-        },
-        added: AddedStripes::Nothing,
-    }
-}
 
 // The stripe x - a * (y + z) >= 0.
 fn stripe(x: usize, a: u16, y: usize, z: usize) -> Stripe
@@ -137,201 +40,170 @@ fn apart(u: usize, v: usize, plus: u64, minus: u64) -> Stripe
     ensures { result ≡ Model.apart u v plus minus }
 {
     Stripe {
-        x: u as u8,
-        a: 1,
-        y: v as u8,
-        z: BLANK_VARIABLE as u8,
         plus,
         minus,
+        ..stripe(u, 1, v, BLANK_VARIABLE)
     }
 }
 
 // d = i + up - down for a number: both ways round, or all stripes shifted where d is i.
-fn by_number(d: usize, i: usize, up: u64, down: u64) -> Plan
+fn by_number(d: usize, i: usize, up: u64, down: u64, f: &PointFacts, new: &mut StripeList)
     requires d_lt_variables { (d < variables) × (i < variables) }
     requires up_bound { (up ≤ MAX) × (down ≤ MAX) }
-    ensures { Does result (λ (ss : List Stripe). by_number today d i up down ss) }
+    ensures { new.new ≡ by_number today d i up down f.now.stripes }
 {
     if d == i {
-        return all_shifted(d, up, down);
+        all_shifted(d, up, down, f, new);
+    } else {
+        two_and_dropped(apart(d, i, up, down), apart(i, d, down, up), d, f, new);
     }
-    two_and_dropped(apart(d, i, up, down), apart(i, d, down, up), d)
 }
 
 // The stripes after COPY: d and i both ways round, or all where d is i.
-fn copy_stripes(d: usize, i: usize) -> Plan
+fn copy_stripes(d: usize, i: usize, f: &PointFacts, new: &mut StripeList)
     requires { (d < variables) × (i < variables) }
-    ensures { Does result (λ (ss : List Stripe). cond (eqb d i) ss (Model.apart d i 0 0 ∷ Model.apart i d 0 0 ∷ Model.dropped d ss)) }
+    ensures { new.new ≡ cond (eqb d i) f.now.stripes (Model.apart d i 0 0 ∷ Model.apart i d 0 0 ∷ Model.dropped d f.now.stripes) }
 {
     if d == i {
-        return all();
+        all(f, new);
+    } else {
+        two_and_dropped(apart(d, i, 0, 0), apart(i, d, 0, 0), d, f, new);
     }
-    two_and_dropped(apart(d, i, 0, 0), apart(i, d, 0, 0), d)
 }
 
 // ADDW where nothing wraps: by a number, or d - (i + o) >= 0.
-fn sum_stripes(d: usize, i: usize, o: Operand) -> Plan
+fn sum_stripes(d: usize, i: usize, o: Operand, f: &PointFacts, new: &mut StripeList)
     requires { ArithmeticLimited d i o }
-    ensures { Does result (λ (ss : List Stripe). sum_stripes today d i o ss) }
+    ensures { new.new ≡ sum_stripes today d i o f.now.stripes }
 {
     match o {
         Operand::Variable(v) => {
             if (d == i) | (d == v) {
-                return dropped(d);
+                dropped(d, f, new);
+            } else {
+                one_and_dropped(stripe(d, 1, i, v), d, f, new);
             }
-            one_and_dropped(stripe(d, 1, i, v), d)
         }
-        Operand::Number(c) => by_number(d, i, c as u64, 0),
+        Operand::Number(c) => by_number(d, i, u64::from(c), 0, f, new),
     }
 }
 
 // SUBW where nothing wraps: by a number, or i - (d + o) >= 0.
-fn difference_stripes(d: usize, i: usize, o: Operand) -> Plan
+fn difference_stripes(d: usize, i: usize, o: Operand, f: &PointFacts, new: &mut StripeList)
     requires { ArithmeticLimited d i o }
-    ensures { Does result (λ (ss : List Stripe). difference_stripes today d i o ss) }
+    ensures { new.new ≡ difference_stripes today d i o f.now.stripes }
 {
     match o {
         Operand::Variable(v) => {
             if (d == i) | (d == v) {
-                return dropped(d);
+                dropped(d, f, new);
+            } else {
+                one_and_dropped(stripe(i, 1, d, v), d, f, new);
             }
-            one_and_dropped(stripe(i, 1, d, v), d)
         }
-        Operand::Number(c) => by_number(d, i, 0, c as u64),
+        Operand::Number(c) => by_number(d, i, 0, u64::from(c), f, new),
     }
 }
 
 // MULW by a number where nothing wraps: d - c * i >= 0, if c can be a scale.
-fn scaled_stripes(d: usize, i: usize, c: u32) -> Plan
+fn scaled_stripes(d: usize, i: usize, c: u32, f: &PointFacts, new: &mut StripeList)
     requires { (d < variables) × (i < variables) }
-    ensures { Does result (λ (ss : List Stripe). product_stripes today d i (Number c) ss) }
+    ensures { new.new ≡ product_stripes today d i (Number c) f.now.stripes }
 {
     if (1 <= c) & (c <= GREATEST_SCALE as u32) & (d != i) {
-        return one_and_dropped(stripe(d, c as u16, i, BLANK_VARIABLE), d);
+        one_and_dropped(stripe(d, c as u16, i, BLANK_VARIABLE), d, f, new);
+    } else {
+        dropped(d, f, new);
     }
-    dropped(d)
 }
 
 // MULW where nothing wraps.
-fn product_stripes(d: usize, i: usize, o: Operand) -> Plan
+fn product_stripes(d: usize, i: usize, o: Operand, f: &PointFacts, new: &mut StripeList)
     requires { ArithmeticLimited d i o }
-    ensures { Does result (λ (ss : List Stripe). product_stripes today d i o ss) }
+    ensures { new.new ≡ product_stripes today d i o f.now.stripes }
 {
     match o {
-        Operand::Variable(v) => dropped(d),
-        Operand::Number(c) => scaled_stripes(d, i, c),
+        Operand::Variable(_) => dropped(d, f, new),
+        Operand::Number(c) => scaled_stripes(d, i, c, f, new),
     }
 }
 
 // BLTU taken: o - i >= 1.
-fn less_stripes(i: usize, o: Operand) -> Plan
+fn less_stripes(i: usize, o: Operand, f: &PointFacts, new: &mut StripeList)
     requires { (i < variables) × OperandLimited o }
-    ensures { Does result (λ (ss : List Stripe). less_stripes i o ss) }
+    ensures { new.new ≡ less_stripes i o f.now.stripes }
 {
     match o {
-        Operand::Variable(v) => one_and_all(apart(v, i, 1, 0)),
-        Operand::Number(c) => all(),
+        Operand::Variable(v) => one_and_all(apart(v, i, 1, 0), f, new),
+        Operand::Number(_) => all(f, new),
     }
 }
 
 // BLTU not taken: i - o >= 0.
-fn not_less_stripes(i: usize, o: Operand) -> Plan
+fn not_less_stripes(i: usize, o: Operand, f: &PointFacts, new: &mut StripeList)
     requires { (i < variables) × OperandLimited o }
-    ensures { Does result (λ (ss : List Stripe). not_less_stripes i o ss) }
+    ensures { new.new ≡ not_less_stripes i o f.now.stripes }
 {
     match o {
-        Operand::Variable(v) => one_and_all(apart(i, v, 0, 0)),
-        Operand::Number(c) => all(),
+        Operand::Variable(v) => one_and_all(apart(i, v, 0, 0), f, new),
+        Operand::Number(_) => all(f, new),
     }
 }
 
 // BEQU taken: o - i >= 0 and i - o >= 0.
-fn equal_stripes(i: usize, o: Operand) -> Plan
+fn equal_stripes(i: usize, o: Operand, f: &PointFacts, new: &mut StripeList)
     requires { (i < variables) × OperandLimited o }
-    ensures { Does result (λ (ss : List Stripe). equal_stripes i o ss) }
+    ensures { new.new ≡ equal_stripes i o f.now.stripes }
 {
     match o {
-        Operand::Variable(v) => two_and_all(apart(v, i, 0, 0), apart(i, v, 0, 0)),
-        Operand::Number(c) => all(),
+        Operand::Variable(v) => two_and_all(apart(v, i, 0, 0), apart(i, v, 0, 0), f, new),
+        Operand::Number(_) => all(f, new),
     }
 }
 
-// The plan where nothing wraps, else the stripes that do not name d.
-fn if_fits(fits: bool, p: Plan, d: usize) -> Plan
-    requires { d < variables }
-    ensures { (f : List Stripe → List Stripe) → Does p f → Does result (λ (ss : List Stripe). cond fits (f ss) (Model.dropped d ss)) }
-{
-    if fits {
-        return p;
-    }
-    dropped(d)
-}
-
-// The stripes along an edge of BLTU.
-fn ordered_stripes(e: Edge, i: usize, o: Operand) -> Plan
-    requires { (i < variables) × OperandLimited o }
-    ensures { Does result (λ (ss : List Stripe). ordered_stripes e i o ss) }
-{
-    match e {
-        Edge::Next => not_less_stripes(i, o),
-        Edge::Target(u) => less_stripes(i, o),
-    }
-}
-
-// The stripes along an edge of BEQU.
-fn matched_stripes(e: Edge, i: usize, o: Operand) -> Plan
-    requires { (i < variables) × OperandLimited o }
-    ensures { Does result (λ (ss : List Stripe). matched_stripes e i o ss) }
-{
-    match e {
-        Edge::Next => all(),
-        Edge::Target(u) => equal_stripes(i, o),
-    }
-}
-
-// The stripes along an edge of an instruction, with the ranges before the step.
-pub fn plan_along<'a>(
-    e: Edge,
-    i: Instruction,
-    low: &'a [u64; VARIABLES],
-    high: &'a [u64; VARIABLES],
-) -> Plan
-    requires ends { Ends low.now high.now }
-    requires limited { Limited i }
-    ensures { Does result (λ (ss : List Stripe). stripes_along today e i (ranges_of low.now high.now) ss) }
+// The stripes along an edge of an instruction.
+#[tactic(auto, unfolding(model::specs::Transfer::stripes_along))]
+pub fn stripes_along(e: Edge, i: Instruction, f: &PointFacts, new: &mut StripeList)
+    requires { Limited i }
+    ensures { new.new ≡ stripes_along today e i f.now.ranges f.now.stripes }
 {
     match i {
-        Instruction::Stop => all(),
-        Instruction::Setc { d, c } => dropped(d),
-        Instruction::Copy { d, i } => copy_stripes(d, i),
-        Instruction::Addw { d, i, o } => if_fits(
-            sum_fits(ranges_at(low, high, i, o)),
-            sum_stripes(d, i, o),
-            d,
-        ),
-        Instruction::Subw { d, i, o } => if_fits(
-            difference_fits(ranges_at(low, high, i, o)),
-            difference_stripes(d, i, o),
-            d,
-        ),
-        Instruction::Mulw { d, i, o } => if_fits(
-            product_fits(ranges_at(low, high, i, o)),
-            product_stripes(d, i, o),
-            d,
-        ),
-        Instruction::Divf { d, i, o } => dropped(d),
-        Instruction::Load {
-            d,
-            w,
-            table,
-            a,
-            i,
-            k,
-        } => dropped(d),
-        Instruction::Stor { v, w, a, i, k } => all(),
-        Instruction::Jump { t } => all(),
-        Instruction::Bltu { i, t, o } => ordered_stripes(e, i, o),
-        Instruction::Bequ { i, t, o } => matched_stripes(e, i, o),
-        Instruction::Divm { q, i, r, o } => both_dropped(q, r),
+        Instruction::Stop => all(f, new),
+        Instruction::Setc { d, .. } => dropped(d, f, new),
+        Instruction::Copy { d, i } => copy_stripes(d, i, f, new),
+        Instruction::Addw { d, i, o } => {
+            if sum_fits(f.pair(i, o)) {
+                sum_stripes(d, i, o, f, new);
+            } else {
+                dropped(d, f, new);
+            }
+        }
+        Instruction::Subw { d, i, o } => {
+            if difference_fits(f.pair(i, o)) {
+                difference_stripes(d, i, o, f, new);
+            } else {
+                dropped(d, f, new);
+            }
+        }
+        Instruction::Mulw { d, i, o } => {
+            if product_fits(f.pair(i, o)) {
+                product_stripes(d, i, o, f, new);
+            } else {
+                dropped(d, f, new);
+            }
+        }
+        Instruction::Divf { d, .. } => dropped(d, f, new),
+        Instruction::Load { d, .. } => dropped(d, f, new),
+        Instruction::Stor { .. } => all(f, new),
+        Instruction::Jump { .. } => all(f, new),
+        Instruction::Bltu { i, o, .. } => match e {
+            Edge::Next => not_less_stripes(i, o, f, new),
+            Edge::Target(_) => less_stripes(i, o, f, new),
+        },
+        Instruction::Bequ { i, o, .. } => match e {
+            Edge::Next => all(f, new),
+            Edge::Target(_) => equal_stripes(i, o, f, new),
+        },
+        Instruction::Divm { q, r, .. } => both_dropped(q, r, f, new),
     }
 }

@@ -2,9 +2,8 @@
 use Prim.Native.Nat.{ℕ, ◌/◌, ◌%◌}
 use native.Mathlib.Omega.{arith}
 use mathlib.Core.Path.{◌≡◌, refl}
-use mathlib.Core.Bool.{true, cond}
+use mathlib.Core.Bool.{true, false, cond}
 use mathlib.Core.List.{List}
-use lib.Dec.{eqb}
 use Rattle.model.specs.declared.text.Field.{Field}
 use Rattle.model.specs.declared.text.Field.TheVariants.{Blank, Number, Negative, Misshapen}
 use Rattle.model.specs.declared.text.Word.{Word}
@@ -12,43 +11,43 @@ use Rattle.model.specs.Limits.{blank_variable}
 use Rattle.model.specs.Lines.{field_at, kind_at, in_shape, variable_or_blank, plus_in, minus_in}
 use Rattle.model.proofs.Tests.{every-below}
 use Rattle.columns.specs.declared.field.KeptFields.{KeptFields}
-use Rattle.columns.specs.Kept.{BLANK, NEGATIVE, kept_plain, kept_signed, kept_fields}
-use Rattle.columns.proofs.KeptShapes.{fourth-of-six, sixth-of-six}
+use Rattle.columns.specs.declared.field.KeptShape.{KeptShape}
+use Rattle.columns.specs.Kept.{shape_in, is_blank, is_negative, kept, kept_fields}
+use Rattle.columns.proofs.KeptShapes.{shape-of-six}
 use Rattle.word_table.proofs.KeptNumbers.{unsigned, unsigned-kinds, blank-or-number, field-shaped, number-kept}
 use Rattle.line_rows.specs.Rows.{numbers}
-use Rattle.encoded.specs.Encoded.{kind_of, row_of}
+use Rattle.encoded.specs.Encoded.{row_of}
 
-plus-kept : (f : Field) → cond (eqb (kept_signed f).shape NEGATIVE) 0 (kept_signed f).number ≡ plus_in f
+plus-kept : (f : Field) → cond (is_negative (kept true f).shape) 0 (kept true f).number ≡ plus_in f
 plus-kept Blank = refl
 plus-kept (Number v) = refl
 plus-kept (Negative v) = refl
 plus-kept Misshapen = refl
 
-minus-kept : (f : Field) → cond (eqb (kept_signed f).shape NEGATIVE) (kept_signed f).number 0 ≡ minus_in f
+minus-kept : (f : Field) → cond (is_negative (kept true f).shape) (kept true f).number 0 ≡ minus_in f
 minus-kept Blank = refl
 minus-kept (Number v) = refl
 minus-kept (Negative v) = refl
 minus-kept Misshapen = refl
 
-pub row_kept : (w : Word) (fs : List Field) (x : KeptFields) → x ≡ kept_fields fs → in_shape w fs ≡ true → {k d f g s t : ℕ}
-    → s ≡ x.shapes / 16 % 4 → t ≡ x.shapes % 4 → k ≡ kind_of w
-    → d ≡ cond (eqb s BLANK) blank_variable x.fourth → f ≡ cond (eqb t NEGATIVE) 0 x.sixth → g ≡ cond (eqb t NEGATIVE) x.sixth 0
-    → numbers k x.first x.second x.third d x.fifth f g ≡ row_of w fs
+pub row_kept : (w : Word) (fs : List Field) (x : KeptFields) → x ≡ kept_fields fs → in_shape w fs ≡ true → {d f g : ℕ} {s t : KeptShape}
+    → s ≡ shape_in x.shapes 3 → t ≡ shape_in x.shapes 5
+    → d ≡ cond (is_blank s) blank_variable x.fourth → f ≡ cond (is_negative t) 0 x.sixth → g ≡ cond (is_negative t) x.sixth 0
+    → numbers w x.first x.second x.third d x.fifth f g ≡ row_of w fs
 unfolding kept_fields
-row_kept w fs x e h p q a b c d =
+row_kept w fs x e h p q a b c =
     let variable =
-    blank-or-number (λ (y : Field). cond (eqb (kept_plain y).shape BLANK) blank_variable (kept_plain y).number ≡ variable_or_blank y) (kind_at w 3) (field_at fs 3)
+    blank-or-number (λ (y : Field). cond (is_blank (kept false y).shape) blank_variable (kept false y).number ≡ variable_or_blank y) (kind_at w 3) (field_at fs 3)
     (every-below (λ (i : ℕ). unsigned (kind_at w i)) 5 (unsigned-kinds w) 3 (omega arith)) (field-shaped w fs h 3 (omega arith)) refl (λ v. refl) in
     rw (
       a,
       b,
       c,
-      d,
       p,
       q,
       e,
-      fourth-of-six fs,
-      sixth-of-six fs,
+      shape-of-six fs 3 (omega arith),
+      shape-of-six fs 5 (omega arith),
       variable,
       plus-kept (field_at fs 5),
       minus-kept (field_at fs 5),

@@ -15,11 +15,9 @@ use Rattle.model.specs.declared.text.Content.TheVariants.{Target, Scale, Offset,
 use Rattle.model.specs.declared.text.Kind.{Kind}
 use Rattle.model.specs.declared.text.Kind.TheVariants.{Plain}
 use Rattle.model.specs.declared.machine.Operand.TheVariants.{Variable as variable, Number as number}
-use Rattle.model.specs.declared.machine.Instruction.{Instruction}
 use Rattle.model.specs.declared.machine.Instruction.TheVariants.{Setc, Addw, Subw, Mulw, Divf, Jump, Divm}
-use Rattle.model.specs.declared.claims.Claim.TheVariants.{Leas, Most, Strp, Turn}
-use Rattle.model.specs.declared.claims.Line.TheVariants.{Refused as refused_line, Claim as claim_line, Instruction as instruction_line}
-use Rattle.model.specs.declared.answers.Refusal.TheVariants.{ListingLength}
+use Rattle.model.specs.declared.claims.Claim.TheVariants.{Leas, Most}
+use Rattle.model.specs.declared.claims.Line.TheVariants.{Claim as claim_line, Instruction as instruction_line}
 use Rattle.model.specs.Limits.{MAX, today}
 use Rattle.model.specs.Text.{value_in}
 use Rattle.model.specs.Words.{fields_of, shaped}
@@ -28,10 +26,8 @@ use Rattle.model.specs.Lines.{field_at, F1, F2, F3, F4, F5, F6, kind_at, in_shap
 use Rattle.model.specs.Limited.{OperandLimited}
 use Rattle.model.proofs.Limited.{line-limited}
 use Rattle.model.proofs.Tests.{every-below}
-use Rattle.line_rows.specs.declared.rows.Row.{Row}
-use Rattle.line_rows.specs.Kinds as Kinds
-use Rattle.decoded.specs.Decoded.{operand_in, instruction_from, stripe_from, line_of_row}
-use Rattle.encoded.specs.Encoded.{row_of, refused_row}
+use Rattle.decoded.specs.Decoded.{operand_in, line_of_row}
+use Rattle.encoded.specs.Encoded.{row_of}
 
 word_same : (n : ℕ) → n ≤ MAX → n % Limits.modulus ≡ n
 word_same n h = omega arith
@@ -79,7 +75,7 @@ module _ (fs : List Field) where
   operand-is w e k h = ap (operand_in (F5 fs)) (sixth-is w e an_operand k) ∙ operand_same (F5 fs) (F6 fs) h
 
   pub line_same : (w : Word) → in_shape w fs ≡ true → in_limits today w fs ≡ true → registers_differ w fs ≡ true → line_of_row (row_of w fs) ≡ Lines.line_from w fs
-  unfolding line_of_row instruction_from fields_of
+  unfolding fields_of
   line_same STOP s l d = refl
   line_same SETC s l d = ap (λ (n : ℕ). instruction_line (Setc (F1 fs) n)) (ap (λ (n : ℕ). n % Limits.modulus) (sixth-is SETC s a_number refl) ∙ word_same (F6 fs) (line-limited fs SETC l d).1)
   line_same COPY s l d = refl
@@ -102,23 +98,3 @@ module _ (fs : List Field) where
       rw (byte-same (F1 fs) (omega arith), scale_same (F2 fs) h.scale, byte-same (F3 fs) (omega arith), byte-same (variable_or_blank (field_at fs 3)) (omega arith)) refl
   line_same DIVM s l d = ap (λ (o : _). instruction_line (Divm (F1 fs) (F2 fs) (F3 fs) o)) (operand-is DIVM s refl (line-limited fs DIVM l d).arithmetic.operand)
   line_same TURN s l d = refl
-
--- the row of a line that is turned back
-pub refused-same : line_of_row refused_row ≡ refused_line ListingLength
-unfolding line_of_row
-refused-same = refl
-
--- where a row holds an instruction, it is this one
-pub instruction-held : (r : Row) (i : Instruction) → line_of_row r ≡ instruction_line i → instruction_from r ≡ i
-unfolding line_of_row
-instruction-held r i e = go (eqb r.kind Kinds.STRP) (eqb r.kind Kinds.LEAS) (eqb r.kind Kinds.MOST) (eqb r.kind Kinds.REFUSED) (eqb r.kind Kinds.TURN) e
-  where
-    go : (a b c d t : Bool)
-        → cond a (claim_line (Strp (stripe_from r))) (cond b (claim_line (Leas r.first r.sixth)) (cond c (claim_line (Most r.first r.sixth)) (cond d (refused_line ListingLength) (cond t (claim_line (Turn r.first)) (instruction_line (instruction_from r)))))) ≡ instruction_line i
-        → instruction_from r ≡ i
-    go true b c d t h = let z : ◌≡◌ {A = ℕ} 0 1 = cc in absurd (omega arith)
-    go false true c d t h = let z : ◌≡◌ {A = ℕ} 0 1 = cc in absurd (omega arith)
-    go false false true d t h = let z : ◌≡◌ {A = ℕ} 0 1 = cc in absurd (omega arith)
-    go false false false true t h = let z : ◌≡◌ {A = ℕ} 0 1 = cc in absurd (omega arith)
-    go false false false false true h = let z : ◌≡◌ {A = ℕ} 0 1 = cc in absurd (omega arith)
-    go false false false false false h = cc

@@ -1,3 +1,2 @@
 pub mod ShownLine
 pub mod TrimmedText
-pub mod TrimmedWords

@@ -1,5 +1,5 @@
 -- A refusal in words: what it means, what to do, and the line that it names, as it is shown.
--- The words are those of README's table. The code holds a text in an array of a fixed size, with spaces behind it.
+-- The words are those of README's table. A line is shown in an array of 39 bytes, with spaces behind it where it is shorter.
 -- A line that is turned back may hold any bytes. What is shown of it is one line of printable bytes.
 use Rattle.std.specs.Prelude.{ℕ, zero, suc, ◌*◌, ◌-◌, cond, List, [], map, ◌++◌, length, take, drop, get_or, replicate, leb, eqb}
 use Rattle.model.specs.declared.answers.Refusal.{Refusal}

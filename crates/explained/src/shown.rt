@@ -2,23 +2,18 @@
 ghost use Rattle.std.specs.Prelude.{◌≡◌, map, ◌+◌, ◌≤◌, length, take, drop};
 ghost use Rattle.explained.specs.Explanation.{padded, shown_byte, shown_line, trimmed_length};
 
-// The last byte that is shown as it is.
-const LAST_SHOWN: u8 = b'~';
-
 // What is cut off at the right of a text.
 const SPACE: u8 = b' ';
 
 // A byte as it is shown.
+#[tactic(auto, unfolding(crate::specs::Explanation::shown_byte, model::specs::Lines::printable))]
 fn shown(b: u8) -> u8
     ensures { result ≡ shown_byte b }
 {
-    if b < b' ' {
-        return b'?';
+    match b {
+        b' '..=b'~' => b,
+        _ => b'?',
     }
-    if LAST_SHOWN < b {
-        return b'?';
-    }
-    b
 }
 
 // The 39 bytes from a place on, as they are shown.
@@ -27,10 +22,8 @@ fn shown_from(listing: &[u8], at: usize) -> [u8; 39]
     ensures { result ≡ map shown_byte (take 39 (drop at listing.now)) }
 {
     let mut text = [b' '; 39];
-    let mut j = 0;
-    while j < 39 {
+    for j in 0..39 {
         text[j] = shown(listing[at + j]);
-        j += 1;
     }
     text
 }
@@ -53,12 +46,10 @@ pub fn trimmed(text: &[u8]) -> usize
     ensures upper_bound { (result ≤ length text.now) × (result ≡ length (take result text.now)) }
     ensures value { result ≡ trimmed_length text.now }
 {
-    let mut n = text.len();
-    while n > 0 {
-        if text[n - 1] != SPACE {
-            return n;
+    for n in (0..text.len()).rev() {
+        if text[n] != SPACE {
+            return n + 1;
         }
-        n -= 1;
     }
-    n
+    0
 }

@@ -13,7 +13,7 @@ ghost use Rattle.output.specs.BoundLine.{bound_line};
 ghost use Rattle.state_tests.specs.States.{state};
 ghost use Rattle.exports.specs.Answer.{RunAnswered, RunAnsweredInPlace};
 
-use answer_numbers::arrays::{bound_numbers, part_numbers, run_numbers, verdict_numbers};
+use answer_numbers::arrays::{answer_numbers, part_numbers, run_numbers};
 use model::limits::REGISTERS;
 use model::machine::State;
 use runner::Ending;
@@ -23,7 +23,8 @@ use runner::Ending;
 pub extern "C" fn rithwellu_check(listing: &[u8], answer: &mut [u64; 4])
     ensures { answer.new ≡ answer_of (check listing.now) }
 {
-    *answer = verdict_numbers(checker::check(listing));
+    let points = checker::check(listing).map(|n| n as u64);
+    *answer = answer_numbers(points);
 }
 
 // The line that the program prints for a listing.
@@ -40,7 +41,7 @@ pub extern "C" fn rithwellu_step_bound(listing: &[u8], answer: &mut [u64; 4])
     ensures { answer.new ≡ bound_answer (step_bound listing.now) }
 {
     let b = step_bound::step_bound(listing);
-    *answer = bound_numbers(b);
+    *answer = answer_numbers(b);
 }
 
 // The line that the program prints for the steps of a listing.

@@ -1,5 +1,5 @@
 -- The sizes that keep the arithmetic of a goal within 64 bits, so that no sum or product is tested while links are tried.
-use Rattle.std.specs.Prelude.{ℕ, ◌+◌, ◌*◌, ◌^◌, ◌≤◌, ◌<◌, ◌≡◌, List, get_or, length}
+use Rattle.std.specs.Prelude.{ℕ, ◌+◌, ◌*◌, ◌^◌, ◌≤◌, ◌<◌}
 use Rattle.model.specs.declared.claims.Stripe.{Stripe}
 use Rattle.model.specs.Limits.{greatest_scale, greatest_links}
 
@@ -22,11 +22,6 @@ SumsBelow = (p q : ℕ) → p ≤ greatest_sum → q ≤ greatest_part → p + q
 -- the stripes along an edge: those of a point and what its instruction adds
 abbrev pub edge_stripes : ℕ
 edge_stripes = 10
-
--- a list of m numbers, each at most b
-pub record Numbers (m b : ℕ) (l : List ℕ) : Type 0 where
-  pub long : length l ≡ m
-  pub most : (i : ℕ) → i < m → get_or l i 0 ≤ b
 
 -- the parts of a stripe that stands, or of a goal at the start
 pub record Small (s : Stripe) : Type 0 where

@@ -1,6 +1,9 @@
-// What is known at a point or along an edge, in arrays of numbers that are lent: the low ends, the high ends, and the stripes.
+// What is known at a point and along an edge: a range for each variable, and stripes.
 #![tactic(auto)]
 
-pub mod ends;
+pub mod known;
+pub mod pair;
+pub mod point;
+pub mod ranges;
 pub mod sizes;
-pub mod stripe_rows;
+pub mod stripes;

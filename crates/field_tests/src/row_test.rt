@@ -6,19 +6,17 @@ use crate::asked::AskedRow;
 use model::answers::{Judgement, Refusal};
 
 // 4, 5 and 19 by what a row asks: every shape before any limit, and the registers that are written last.
-pub fn judge_row(place: usize, shapes: u32, r: AskedRow, differ: bool) -> Judgement
-    ensures { result ≡ row_judged place shapes r differ }
+pub fn judge_row(place: usize, shapes: u32, r: AskedRow) -> Judgement
+    ensures { result ≡ row_judged place shapes r }
 {
-    let due = r.shapes;
-    let allowed = r.allowed;
-    if shapes != due {
-        return Judgement::Refused(Refusal::FieldShape { line: place });
+    if shapes != r.shapes {
+        return Err(Refusal::FieldShape { line: place });
     }
-    if !allowed {
-        return Judgement::Refused(Refusal::NumberLimits { line: place });
+    if !r.allowed {
+        return Err(Refusal::NumberLimits { line: place });
     }
-    if !differ {
-        return Judgement::Refused(Refusal::SameRegister { line: place });
+    if !r.differ {
+        return Err(Refusal::SameRegister { line: place });
     }
-    Judgement::Accepted
+    Ok(())
 }

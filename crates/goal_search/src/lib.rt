@@ -1,5 +1,5 @@
-// Whether a goal follows within so many links from the ends, the stripes and the links that arrays of numbers hold.
+// Whether a goal follows from what is known along an edge, within so many links.
 #![tactic(auto)]
 
-mod standing;
+pub mod at_once;
 pub mod within;

@@ -5,8 +5,7 @@ ghost use Rattle.model.specs.Lines.{printable, well_spelled, fields_in};
 ghost use Rattle.columns.specs.Kept.{kept_fields};
 
 use columns::field::{KeptFields, six};
-use long_field::read_long;
-use short_fields::read_short;
+use fields::{Long, Short, read_field};
 
 // A byte that may stand in columns 1 to 39: counted from the space on, one comparison tells both limits.
 fn is_printable(b: u8) -> bool
@@ -21,10 +20,8 @@ fn all_printable(l: &[u8]) -> bool
     ensures { result ≡ every_below (λ (j : ℕ). printable (slice_index l.now j)) 39 }
 {
     let mut ok = true;
-    let mut j = 0;
-    while j < 39 {
-        ok = ok & is_printable(l[j]);
-        j += 1;
+    for b in &l[..39] {
+        ok = ok & is_printable(*b);
     }
     ok
 }
@@ -42,11 +39,11 @@ pub fn read_fields(l: &[u8]) -> KeptFields
     requires { length l.now ≡ 40 }
     ensures { result ≡ kept_fields (fields_in l.now) }
 {
-    let a = read_short(l, 4);
-    let b = read_short(l, 8);
-    let c = read_short(l, 12);
-    let d = read_short(l, 16);
-    let e = read_short(l, 20);
-    let f = read_long(l, 24);
+    let a = read_field::<Short>(l, 4);
+    let b = read_field::<Short>(l, 8);
+    let c = read_field::<Short>(l, 12);
+    let d = read_field::<Short>(l, 16);
+    let e = read_field::<Short>(l, 20);
+    let f = read_field::<Long>(l, 24);
     six(a, b, c, d, e, f)
 }

@@ -7,20 +7,24 @@ use native.Mathlib.Nat.{add-zero}
 use native.Mathlib.Omega.{arith}
 use lib.ListN.{length}
 use lib.Dec.{eqb}
-use borrow.Author.Tests.{eq-eqb, ne_eqb}
+use borrow.Author.Tests.{ne_eqb}
 use Rattle.model.specs.declared.claims.Claim.{Claim}
 use Rattle.model.specs.declared.answers.Refusal.TheVariants.{ClaimMayFail}
-use Rattle.model.specs.declared.answers.Judgement.TheVariants.{Accepted, Refused as refused}
+use Rattle.model.specs.Types.{accepted}
+use Rattle.std.specs.Prelude.{Err}
 use Rattle.model.specs.Facts.{Facts}
 use Rattle.model.specs.Transfer.{possible}
 use Rattle.model.specs.Follows.{claim_follows, first_lost, lost_along}
 use Rattle.model.specs.Listing.{first_line}
 use Rattle.model.specs.Check.{claims_judged}
+use Rattle.line_rows.specs.declared.rows.Row.{Row}
+use Rattle.rows_and_places.specs.declared.places.Place.{Place}
 use Rattle.line_rows.specs.Rows.{row_at}
 use Rattle.decoded.specs.Decoded.{claim_from, claims_from}
 use Rattle.decoded.proofs.Claims.{claims-none, claims-next, claims-count}
 use Rattle.rows_and_places.specs.Points.{line_in, number_in, first_in, point_in}
 use Rattle.rows_and_places.proofs.PlacedPoints.{first-line}
+use Rattle.lost_claims.specs.Lost.{lost_judged}
 
 -- one claim more at the end
 first-snoc : (f : Facts) (m : ℕ) (cs : List Claim) (c : Claim) → 1 ≤ m → first_lost f m (cs ++ (c ∷ [])) ≡ cond (eqb (first_lost f m cs) 0) (cond (claim_follows f c) 0 (m + length cs)) (first_lost f m cs)
@@ -36,7 +40,7 @@ first-snoc f m (b ∷ cs) c h = go (claim_follows f b) (first-snoc f (m + 1) cs 
     go true e = rw shift at e
     go false e = rw (ne_eqb m 0 (λ z. omega arith))
 
-module _ (rows : List ℕ) (f : Facts) (from : ℕ) where
+module _ (rows : List Row) (f : Facts) (from : ℕ) where
   -- what is lost among n rows
   abbrev lost : ℕ → ℕ
   lost n = first_lost f (from + 1) (claims_from rows from n)
@@ -69,13 +73,17 @@ module _ (rows : List ℕ) (f : Facts) (from : ℕ) where
         go : lost (suc n + k) ≡ from + n + 1 → lost (suc n + suc k) ≡ from + n + 1
         go h = ap lost more ∙ lost-next (suc n + k) ∙ rw (h, ne_eqb (from + n + 1) 0 (λ z. omega arith))
 
-    pub lost-first : (m : ℕ) → n < m → claim_follows f c ≡ false → from + n + 1 ≡ lost m
+    lost-first : (m : ℕ) → n < m → claim_follows f c ≡ false → lost m ≡ from + n + 1
     lost-first m h e =
         let whole : suc n + (m - suc n) ≡ m = omega arith in
-        sym (lost-stays e (m - suc n)) ∙ ap lost whole
+        sym (ap lost whole) ∙ lost-stays e (m - suc n)
+
+    -- it is the first that is lost among m rows
+    pub first-judged : (l m : ℕ) → n < m → claim_follows f c ≡ false → Err (ClaimMayFail l (from + n + 1)) ≡ lost_judged l (lost m)
+    first-judged l m h e = rw (lost-first m h e, ne_eqb (from + n + 1) 0 (λ z. omega arith)) refl
 
 -- a point without claims is owed nothing
-pub edge_none : (l : ℕ) (rows at : List ℕ) (t : ℕ) (h : Facts) → number_in at t ≡ 0 → Accepted ≡ claims_judged l h (point_in rows at t)
+pub edge_none : (l : ℕ) (rows : List Row) (at : List Place) (t : ℕ) (h : Facts) → number_in at t ≡ 0 → accepted ≡ claims_judged l h (point_in rows at t)
 unfolding lost_along first_lost
 edge_none l rows at t h e =
     let none : (point_in rows at t).claims ≡ [] = ap (claims_from rows (first_in at t)) e ∙ claims-none rows (first_in at t) in
@@ -85,21 +93,14 @@ edge_none l rows at t h e =
     nothing-lost true = refl
     nothing-lost false = refl
 
--- the three answers for an edge to point t along which g is known, where g is h
-module _ (l : ℕ) (rows at : List ℕ) (t : ℕ) (g h : Facts) (same : g ≡ h) where
-  along-is : number_in at t < line_in at t → lost_along h (first_line (point_in rows at t)) (point_in rows at t).claims ≡ cond (possible g) (first_lost g (first_in at t + 1) (point_in rows at t).claims) 0
+-- the answers for an edge to point t along which f is known
+module _ (l : ℕ) (rows : List Row) (at : List Place) (t : ℕ) (f : Facts) where
+  pub edge-possible : number_in at t < line_in at t → possible f ≡ true → lost_judged l (first_lost f (first_in at t + 1) (claims_from rows (first_in at t) (number_in at t))) ≡ claims_judged l f (point_in rows at t)
   unfolding lost_along
-  along-is b =
+  edge-possible b p =
       let line : first_line (point_in rows at t) ≡ first_in at t + 1 = first-line rows at t ∙ omega arith in
-      rw (line, ← same)
+      rw (line, p) refl
 
-  module _ (b : number_in at t < line_in at t) (lost : ℕ) (e : lost ≡ first_lost g (first_in at t + 1) (claims_from rows (first_in at t) (number_in at t))) where
-    pub edge_kept : possible g ≡ true → lost ≡ 0 → Accepted ≡ claims_judged l h (point_in rows at t)
-    edge_kept p z = rw (along-is b, p, ← e, eq-eqb lost 0 z)
-
-    pub edge-refused : possible g ≡ true → (lost ≡ 0 → ⊥) → refused (ClaimMayFail l lost) ≡ claims_judged l h (point_in rows at t)
-    edge-refused p z = rw (along-is b, p, ← e, ne_eqb lost 0 z)
-
-  pub edge-impossible : possible g ≡ false → Accepted ≡ claims_judged l h (point_in rows at t)
+  pub edge-impossible : possible f ≡ false → accepted ≡ claims_judged l f (point_in rows at t)
   unfolding lost_along
-  edge-impossible p = rw (← same, p)
+  edge-impossible p = rw p refl

@@ -4,7 +4,7 @@ use mathlib.Core.Path.{◌≡◌, refl, sym}
 use mathlib.Core.Bool.{false, false≢true}
 use mathlib.Core.List.{List, [], ◌∷◌}
 use lib.ListN.{length}
-use Rattle.model.specs.Types.{State, Judgement, Accepted, refused, ClaimsNotMet}
+use Rattle.model.specs.Types.{State, Judgement, accepted, Err, ClaimsNotMet, Ok}
 use Rattle.model.specs.Limits.{registers}
 use Rattle.model.specs.Answers.{◌and_then◌}
 use Rattle.model.specs.Listing.{Point, listing_of, points_of, point_exists}
@@ -20,7 +20,7 @@ use Rattle.model.proofs.Runs.{ran}
 use Rattle.model.proofs.Safety.{passed, checked, good_start}
 
 -- where 1 to 17 accept a run, its first configuration is good
-pub accepted-good : (l : List ℕ) (s : State) (t : Tables) → length s.registers ≡ registers → Sized (sizes_of t) t → run_judged l s (sizes_of t) ≡ Accepted
+pub accepted-good : (l : List ℕ) (s : State) (t : Tables) → length s.registers ≡ registers → Sized (sizes_of t) t → run_judged l s (sizes_of t) ≡ accepted
     → Passes (points_of (listing_of l)) × Good (points_of (listing_of l)) (sizes_of t) (config_of s t)
 unfolding run_judged_within
 accepted-good l s t sixteen bytes e =
@@ -44,8 +44,8 @@ module _ (l : List ℕ) where
       Away r = (turned_back r.outcome.report ≡ false → (j : ℕ) → j ≤ r.outcome.steps → AwayFromEmpty ps (config_of s k.tables) j) × (length r.outcome.state.registers ≡ registers)
 
       go : (j : Judgement) → run_judged l s (sizes_of k.tables) ≡ j → Away (ran_from j ps s k.tables k.budget)
-      go (refused r) e = (λ b. absurd (false≢true (sym b)), sixteen)
-      go Accepted e =
+      go (Err r) e = (λ b. absurd (false≢true (sym b)), sixteen)
+      go (Ok u) e =
           let (passes, good) = accepted-good l s k.tables sixteen bytes e in (
             λ b j i.
                 let r = reached-all ps passes (sizes_of k.tables) (config_of s k.tables) good j in

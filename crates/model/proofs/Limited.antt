@@ -7,7 +7,7 @@ use native.Mathlib.Nat.{mul-le-mul}
 use native.Mathlib.Omega.{arith}
 use lib.Dec.{ltb, leb, eqb}
 use borrow.Author.Tests.{ltb-true, leb-true, eqb-false, not-true}
-use Rattle.model.specs.Types.{Field, Blank, Number, Negative, Misshapen, Word, STOP, SETC, COPY, ADDW, SUBW, MULW, DIVF, LOAD, STOR, JUMP, BLTU, BEQU, LEAS, MOST, STRP, DIVM, TURN, FoundWord, Unknown, Known, empty, Width, One, Two, Four, variable, number, refused_line, LineBytes, FieldShape, NumberLimits, SameRegister, Accepted, refused}
+use Rattle.model.specs.Types.{Field, Blank, Number, Negative, Misshapen, Word, STOP, SETC, COPY, ADDW, SUBW, MULW, DIVF, LOAD, STOR, JUMP, BLTU, BEQU, LEAS, MOST, STRP, DIVM, TURN, Option, None, Some, empty, Width, One, Two, Four, variable, number, refused_line, LineBytes, FieldShape, NumberLimits, SameRegister, accepted, Err}
 use Rattle.model.specs.Limits.{registers, variables, MAX, greatest_size, greatest_scale, greatest_offset, greatest_bound, greatest_points, today}
 use Rattle.model.specs.Text.{value_in}
 use Rattle.model.specs.Words.{words, word_among, fields_of, shaped, within, allowed}
@@ -133,13 +133,13 @@ module _ (fs : List Field) where
   }
   line-limited TURN e n = ltb-true (F1 fs) registers (field-allowed TURN e 0 (omega arith))
 
-  found-limited : (place : ℕ) (w : FoundWord) → LineLimited (line_found today place w fs)
+  found-limited : (place : ℕ) (w : Option Word) → LineLimited (line_found today place w fs)
   unfolding judged
-  found-limited place Unknown = tt
-  found-limited place (Known w) = go (in_shape w fs) (in_limits today w fs) (registers_differ w fs) refl refl
+  found-limited place None = tt
+  found-limited place (Some w) = go (in_shape w fs) (in_limits today w fs) (registers_differ w fs) refl refl
     where
       go : (a b c : Bool) → in_limits today w fs ≡ b → registers_differ w fs ≡ c
-          → LineLimited (line_or (cond a (cond b (cond c Accepted (refused (SameRegister place))) (refused (NumberLimits place))) (refused (FieldShape place))) (line_from w fs))
+          → LineLimited (line_or (cond a (cond b (cond c accepted (Err (SameRegister place))) (Err (NumberLimits place))) (Err (FieldShape place))) (line_from w fs))
       go true true true e d = line-limited w e d
       go true true false e d = tt
       go true false c e d = tt

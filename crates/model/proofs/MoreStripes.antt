@@ -6,7 +6,7 @@ use Prim.Native.Nat.{ℕ, zero, suc, ◌+◌, ◌≤◌}
 use native.Mathlib.Omega.{arith}
 use lib.Dec.{eqb}
 use borrow.Author.Tests.{eqb-true}
-use Rattle.model.specs.Types.{Range, Stripe, Claim, Leas, Most, Strp, Turn, ClaimMayFail, Accepted}
+use Rattle.model.specs.Types.{Range, Stripe, Claim, Leas, Most, Strp, Turn, ClaimMayFail, accepted}
 use Rattle.model.specs.Limits.{greatest_links}
 use Rattle.model.specs.Lists.{some, kept}
 use Rattle.model.specs.Facts.{Facts, non_empty}
@@ -114,14 +114,14 @@ module _ (rs : List Range) (ss ts : List Stripe) (more : Included ss ts) where
       go false q = refl
 
   -- the claims of a point that follow along an edge still follow
-  pub claims-kept : (l : ℕ) (q : Point) → 1 ≤ first_line q → claims_judged l fewer q ≡ Accepted → claims_judged l further q ≡ Accepted
+  pub claims-kept : (l : ℕ) (q : Point) → 1 ≤ first_line q → claims_judged l fewer q ≡ accepted → claims_judged l further q ≡ accepted
   claims-kept l q i e =
       let lost = lost_along fewer (first_line q) q.claims in
       let none : lost ≡ 0 = eqb-true lost 0 (test-passed (eqb lost 0) (ClaimMayFail l lost) e) in
       rw (none-lost-along (first_line q) q.claims i none) refl
 
 -- a point without claims asks for nothing
-pub no-claims : (l : ℕ) (f : Facts) (q : Point) → q.claims ≡ [] → claims_judged l f q ≡ Accepted
+pub no-claims : (l : ℕ) (f : Facts) (q : Point) → q.claims ≡ [] → claims_judged l f q ≡ accepted
 unfolding lost_along first_lost
 no-claims l f q e = rw (none (first_line q) q.claims e) refl
   where

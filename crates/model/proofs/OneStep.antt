@@ -10,7 +10,7 @@ use lib.ListN.{length, get_or, set, length-set, length-append}
 use lib.Seq.{get_or-set_same, get_or-set_other, set-append_left, get_or-append-add}
 use lib.Dec.{ltb, leb, eqb}
 use borrow.Author.Tests.{ltb-true, ltb-false, leb-true, leb-false, eqb-true, eqb-false}
-use Rattle.model.specs.Types.{Width, One, Two, Four, Table, Trays, Results, Operand, Instruction, Stop, Setc, Copy, Addw, Subw, Mulw, Divf, Load, Stor, Jump, Bltu, Bequ, Divm, Edge, Next, Target, Claim, Accepted, refused, NoSuchTarget, DivisorMayBeZero, AccessMayLeave, ClaimMayFail}
+use Rattle.model.specs.Types.{Width, One, Two, Four, Table, Trays, Results, Operand, Instruction, Stop, Setc, Copy, Addw, Subw, Mulw, Divf, Load, Stor, Jump, Bltu, Bequ, Divm, Edge, Next, Target, Claim, accepted, Err, NoSuchTarget, DivisorMayBeZero, AccessMayLeave, ClaimMayFail}
 use Rattle.model.specs.Limits.{registers, variables, blank_variable, MAX, modulus, greatest_links, today}
 use Rattle.model.specs.Facts.{Facts, lo, hi, facts_of, value_at}
 use Rattle.model.specs.Instructions.{targets, goes_on}
@@ -108,7 +108,7 @@ width_small Four = omega arith
 
 module _ (ps : List Point) (limited : All PointLimited ps) (sizes : List ℕ) where
   -- the claims of a point follow along an edge to it, so that they are met there
-  arrive : (l : ℕ) (f : Facts) (c' : Config) → c'.point < length ps → Typed sizes c' → Met (value_of c') f → claims_judged l f (point_at ps c'.point) ≡ Accepted → Good ps sizes c'
+  arrive : (l : ℕ) (f : Facts) (c' : Config) → c'.point < length ps → Typed sizes c' → Met (value_of c') f → claims_judged l f (point_at ps c'.point) ≡ accepted → Good ps sizes c'
   arrive l f c' inside-c t h e =
       let q = point_at ps c'.point in
       let lim : PointLimited q = all-at PointLimited ps _ c'.point inside-c limited in
@@ -123,12 +123,12 @@ module _ (ps : List Point) (limited : All PointLimited ps) (sizes : List ℕ) wh
   module _ (c : Config) (t : Typed sizes c) (l : ℕ) (cs : List Claim) (h : Met (value_of c) (facts_of cs)) where
     -- a register is written
     write-good : (i : Instruction) (d x : ℕ) → d < registers → x ≤ MAX → c.point + 1 < length ps → Met (value_of (wrote c d x)) (facts_along today Next i (facts_of cs))
-        → claims_judged l (facts_along today Next i (facts_of cs)) (point_at ps (c.point + 1)) ≡ Accepted → StepGood ps sizes c.tables.trays (next (wrote c d x))
+        → claims_judged l (facts_along today Next i (facts_of cs)) (point_at ps (c.point + 1)) ≡ accepted → StepGood ps sizes c.tables.trays (next (wrote c d x))
     write-good i d x in-d small on k e = (arrive l (facts_along today Next i (facts_of cs)) (wrote c d x) on (wrote-typed sizes c t d x in-d small) k e, refl)
 
     -- no value changes
     go-good : (i : Instruction) (e : Edge) (p : ℕ) → p < length ps → Met (value_of c) (facts_along today e i (facts_of cs))
-        → claims_judged l (facts_along today e i (facts_of cs)) (point_at ps p) ≡ Accepted → StepGood ps sizes c.tables.trays (next (went c p))
+        → claims_judged l (facts_along today e i (facts_of cs)) (point_at ps p) ≡ accepted → StepGood ps sizes c.tables.trays (next (went c p))
     go-good i e p on k j =
         (arrive l (facts_along today e i (facts_of cs)) (went c p) on (record { registers = t.registers; tables = t.tables; bounded = t.bounded }) k j, refl)
 
@@ -141,7 +141,7 @@ module _ (ps : List Point) (limited : All PointLimited ps) (sizes : List ℕ) wh
 
     -- DIVF: a divisor that is safe by the facts is not 0
     divf-good : (d i : ℕ) (o : Operand) → d < registers → c.point + 1 < length ps → divisor_safe (facts_of cs) o ≡ true
-        → claims_judged l (facts_along today Next (Divf d i o) (facts_of cs)) (point_at ps (c.point + 1)) ≡ Accepted → StepGood ps sizes c.tables.trays (step_of (Divf d i o) c)
+        → claims_judged l (facts_along today Next (Divf d i o) (facts_of cs)) (point_at ps (c.point + 1)) ≡ accepted → StepGood ps sizes c.tables.trays (step_of (Divf d i o) c)
     unfolding step_of
     divf-good d i o in-d on safe e =
         let x = nearest_quotient (value_of c i) (operand_value c o) in
@@ -157,7 +157,7 @@ module _ (ps : List Point) (limited : All PointLimited ps) (sizes : List ℕ) wh
 
     -- DIVM: the same, with the remainder written after the quotient
     divm-good : (q i r : ℕ) (o : Operand) → q < registers → r < registers → c.point + 1 < length ps → divisor_safe (facts_of cs) o ≡ true
-        → claims_judged l (facts_along today Next (Divm q i r o) (facts_of cs)) (point_at ps (c.point + 1)) ≡ Accepted → StepGood ps sizes c.tables.trays (step_of (Divm q i r o) c)
+        → claims_judged l (facts_along today Next (Divm q i r o) (facts_of cs)) (point_at ps (c.point + 1)) ≡ accepted → StepGood ps sizes c.tables.trays (step_of (Divm q i r o) c)
     unfolding step_of
     divm-good q i r o in-q in-r on safe e =
         let x = quotient (value_of c i) (operand_value c o) in
@@ -192,7 +192,7 @@ module _ (ps : List Point) (limited : All PointLimited ps) (sizes : List ℕ) wh
         (λ z. g) (λ z. omega (arith, leb-false))
 
     load-good : (d : ℕ) (w : Width) (b : Table) (a i k : ℕ) → d < registers → c.point + 1 < length ps
-        → claims_judged l (facts_along today Next (Load d w b a i k) (facts_of cs)) (point_at ps (c.point + 1)) ≡ Accepted
+        → claims_judged l (facts_along today Next (Load d w b a i k) (facts_of cs)) (point_at ps (c.point + 1)) ≡ accepted
         → StepGood ps sizes c.tables.trays (next (wrote c d (read_bytes (bytes_of w) (table_of b c.tables) (address a (value_of c i) k))))
     load-good d w b a i k in-d on e =
         let x = read_bytes (bytes_of w) (table_of b c.tables) (address a (value_of c i) k) in
@@ -205,7 +205,7 @@ module _ (ps : List Point) (limited : All PointLimited ps) (sizes : List ℕ) wh
 
     -- a store keeps the size of the results, and with it every value
     stor-good : (v : ℕ) (w : Width) (a i k : ℕ) → c.point + 1 < length ps
-        → claims_judged l (facts_along today Next (Stor v w a i k) (facts_of cs)) (point_at ps (c.point + 1)) ≡ Accepted
+        → claims_judged l (facts_along today Next (Stor v w a i k) (facts_of cs)) (point_at ps (c.point + 1)) ≡ accepted
         → StepGood ps sizes c.tables.trays (next (stored c (write_bytes (bytes_of w) c.tables.results (address a (value_of c i) k) (value_of c v))))
     unfolding facts_along
     stor-good v w a i k on e =
@@ -221,8 +221,8 @@ module _ (ps : List Point) (limited : All PointLimited ps) (sizes : List ℕ) wh
         (arrive l (facts_of cs) (stored c rs) on typed (subst (λ (vs : List ℕ). Met (value_at vs) (facts_of cs)) same h) e, refl)
 
     bltu-good : (i u : ℕ) (o : Operand) → c.point + 1 < length ps → u < length ps
-        → claims_judged l (facts_along today Next (Bltu i u o) (facts_of cs)) (point_at ps (c.point + 1)) ≡ Accepted
-        → claims_judged l (facts_along today (Target u) (Bltu i u o) (facts_of cs)) (point_at ps u) ≡ Accepted
+        → claims_judged l (facts_along today Next (Bltu i u o) (facts_of cs)) (point_at ps (c.point + 1)) ≡ accepted
+        → claims_judged l (facts_along today (Target u) (Bltu i u o) (facts_of cs)) (point_at ps u) ≡ accepted
         → StepGood ps sizes c.tables.trays (step_of (Bltu i u o) c)
     unfolding step_of
     bltu-good i u o on there e e' =
@@ -231,8 +231,8 @@ module _ (ps : List Point) (limited : All PointLimited ps) (sizes : List ℕ) wh
         (λ z. go-good (Bltu i u o) Next (c.point + 1) on (not-less-met (values c) (facts_of cs) h (facts-long cs) i u o (ltb-false _ _ z)) e)
 
     bequ-good : (i u : ℕ) (o : Operand) → c.point + 1 < length ps → u < length ps
-        → claims_judged l (facts_along today Next (Bequ i u o) (facts_of cs)) (point_at ps (c.point + 1)) ≡ Accepted
-        → claims_judged l (facts_along today (Target u) (Bequ i u o) (facts_of cs)) (point_at ps u) ≡ Accepted
+        → claims_judged l (facts_along today Next (Bequ i u o) (facts_of cs)) (point_at ps (c.point + 1)) ≡ accepted
+        → claims_judged l (facts_along today (Target u) (Bequ i u o) (facts_of cs)) (point_at ps u) ≡ accepted
         → StepGood ps sizes c.tables.trays (step_of (Bequ i u o) c)
     unfolding step_of
     bequ-good i u o on there e e' =
@@ -240,15 +240,15 @@ module _ (ps : List Point) (limited : All PointLimited ps) (sizes : List ℕ) wh
         (λ z. go-good (Bequ i u o) (Target u) u there (equal-met (values c) (facts_of cs) h (facts-long cs) i u o u (eqb-true _ _ z)) e')
         (λ z. go-good (Bequ i u o) Next (c.point + 1) on (unequal-met (values c) (facts_of cs) h (facts-long cs) i u o (eqb-false _ _ z)) e)
 
-    jump-good : (u : ℕ) → u < length ps → claims_judged l (facts_along today (Target u) (Jump u) (facts_of cs)) (point_at ps u) ≡ Accepted → StepGood ps sizes c.tables.trays (next (went c u))
+    jump-good : (u : ℕ) → u < length ps → claims_judged l (facts_along today (Target u) (Jump u) (facts_of cs)) (point_at ps u) ≡ accepted → StepGood ps sizes c.tables.trays (next (went c u))
     unfolding facts_along
     jump-good u there e = go-good (Jump u) (Target u) u there h e
 
-    target-exists : (u : ℕ) → targets_exist (length ps) l (u ∷ []) ≡ Accepted → u < length ps
+    target-exists : (u : ℕ) → targets_exist (length ps) l (u ∷ []) ≡ accepted → u < length ps
     target-exists u e = ltb-true u (length ps) (test-passed (ltb u (length ps)) (NoSuchTarget l) (both-accepted _ _ e).0)
 
-    pub step-good : (i : Instruction) → Limited i → (goes_on i ≡ true → c.point + 1 < length ps) → targets_exist (length ps) l (targets i) ≡ Accepted
-        → owed_judged today ps c.point (record { line = l; claims = cs; instruction = i }) ≡ Accepted → StepGood ps sizes c.tables.trays (step_of i c)
+    pub step-good : (i : Instruction) → Limited i → (goes_on i ≡ true → c.point + 1 < length ps) → targets_exist (length ps) l (targets i) ≡ accepted
+        → owed_judged today ps c.point (record { line = l; claims = cs; instruction = i }) ≡ accepted → StepGood ps sizes c.tables.trays (step_of i c)
     unfolding step_of owed_judged safety_judged
     step-good Stop lim on reach owed = tt
     step-good (Setc d x) lim on reach owed =
@@ -283,13 +283,13 @@ module _ (ps : List Point) (limited : All PointLimited ps) (sizes : List ℕ) wh
         (mulw-met (values c) (facts_of cs) h (values (wrote c d x)) d (in-ranges d in-d) (wrote-same sizes c t d x in-d) (blank-after d in-d x small) Next i o (wrote_value sizes c t d x in-d))
         (both-accepted _ _ owed).0
     step-good (Divf d i o) lim on reach owed =
-        let (safe, rest) = both-accepted (cond (divisor_safe (facts_of cs) o) Accepted (refused (DivisorMayBeZero l))) _ owed in
+        let (safe, rest) = both-accepted (cond (divisor_safe (facts_of cs) o) accepted (Err (DivisorMayBeZero l))) _ owed in
         divf-good d i o lim.register (on refl) (test-passed _ _ safe) (both-accepted _ _ rest).0
     step-good (Load d w b a i k) lim on reach owed =
-        let (safe, rest) = both-accepted (cond (access_safe (facts_of cs) b w a i k) Accepted (refused (AccessMayLeave l))) _ owed in
+        let (safe, rest) = both-accepted (cond (access_safe (facts_of cs) b w a i k) accepted (Err (AccessMayLeave l))) _ owed in
         access-good b w a i k _ (test-passed _ _ safe) (load-good d w b a i k lim.0 (on refl) (both-accepted _ _ rest).0)
     step-good (Stor v w a i k) lim on reach owed =
-        let (safe, rest) = both-accepted (cond (access_safe (facts_of cs) Results w a i k) Accepted (refused (AccessMayLeave l))) _ owed in
+        let (safe, rest) = both-accepted (cond (access_safe (facts_of cs) Results w a i k) accepted (Err (AccessMayLeave l))) _ owed in
         access-good Results w a i k _ (test-passed _ _ safe) (stor-good v w a i k (on refl) (both-accepted _ _ rest).0)
     step-good (Jump u) lim on reach owed = jump-good u (target-exists u reach) (both-accepted _ _ owed).0
     step-good (Bltu i u o) lim on reach owed =
@@ -299,5 +299,5 @@ module _ (ps : List Point) (limited : All PointLimited ps) (sizes : List ℕ) wh
         let (first, rest) = both-accepted (claims_judged l (facts_along today Next (Bequ i u o) (facts_of cs)) (point_at ps (c.point + 1))) _ owed in
         bequ-good i u o (on refl) (target-exists u reach) first (both-accepted _ _ rest).0
     step-good (Divm q i r o) lim on reach owed =
-        let (safe, rest) = both-accepted (cond (divisor_safe (facts_of cs) o) Accepted (refused (DivisorMayBeZero l))) _ owed in
+        let (safe, rest) = both-accepted (cond (divisor_safe (facts_of cs) o) accepted (Err (DivisorMayBeZero l))) _ owed in
         divm-good q i r o lim.arithmetic.register lim.register (on refl) (test-passed _ _ safe) (both-accepted _ _ rest).0

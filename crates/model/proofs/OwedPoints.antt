@@ -6,7 +6,7 @@ use mathlib.Core.List.{List, [], ◌∷◌}
 use native.Mathlib.Nat.{zero-add}
 use native.Mathlib.Omega.{arith}
 use lib.ListN.{length, length-append}
-use Rattle.model.specs.Types.{Range, Claim, Leas, Most, Strp, Turn, Accepted}
+use Rattle.model.specs.Types.{Range, Claim, Leas, Most, Strp, Turn, accepted}
 use Rattle.model.specs.Limits.{today}
 use Rattle.model.specs.Lists.{every_below}
 use Rattle.model.specs.Facts.{Facts, unclaimed, with_claim, with_claims, facts_of, non_empty}
@@ -14,13 +14,13 @@ use Rattle.model.specs.Listing.{Point, is_empty}
 use Rattle.model.specs.Check.{owed_judged, point_judged}
 
 module _ (ps : List Point) (p : ℕ) (q : Point) where
-  pub owes_nothing : is_empty q ≡ true → point_judged today ps p q ≡ Accepted
+  pub owes_nothing : is_empty q ≡ true → point_judged today ps p q ≡ accepted
   unfolding point_judged
-  owes_nothing e = ap (λ (b : Bool). cond b Accepted (owed_judged today ps p q)) e
+  owes_nothing e = ap (λ (b : Bool). cond b accepted (owed_judged today ps p q)) e
 
   pub owes : is_empty q ≡ false → point_judged today ps p q ≡ owed_judged today ps p q
   unfolding point_judged
-  owes e = ap (λ (b : Bool). cond b Accepted (owed_judged today ps p q)) e
+  owes e = ap (λ (b : Bool). cond b accepted (owed_judged today ps p q)) e
 
 -- a claim adds at most one stripe
 stripes-few : (f : Facts) (cs : List Claim) → length (with_claims f cs).stripes ≤ length f.stripes + length cs

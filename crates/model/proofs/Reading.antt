@@ -5,7 +5,7 @@ use mathlib.Core.List.{List, [], ◌∷◌, ◌++◌}
 use Prim.Native.Nat.{ℕ, zero, suc, ◌+◌, ◌-◌, ◌/◌, ◌≤◌, ◌<◌}
 use native.Mathlib.Omega.{arith}
 use lib.ListN.{length, length-append}
-use Rattle.model.specs.Types.{Claim, Line, refused_line, claim_line, instruction_line, Refusal, ListingLength, NoEnd, ClaimOrder, Judgement, Accepted, refused}
+use Rattle.model.specs.Types.{Claim, Line, refused_line, claim_line, instruction_line, Refusal, ListingLength, NoEnd, ClaimOrder, Judgement, accepted, Err, Ok}
 use Rattle.model.specs.Limits.{line_bytes, today}
 use Rattle.model.specs.Answers.{◌and_then◌}
 use Rattle.model.specs.Lines.{read_line}
@@ -17,23 +17,23 @@ use Rattle.model.specs.Limited.{Limited, ClaimLimited, LineLimited}
 use Rattle.model.proofs.Limited.{read-limited}
 
 -- two tests made in order are both passed
-pub both-accepted : (j k : Judgement) → (j and_then k) ≡ Accepted → (j ≡ Accepted) × (k ≡ Accepted)
-both-accepted Accepted k e = (refl, e)
-both-accepted (refused r) k e = absurd (never e)
+pub both-accepted : (j k : Judgement) → (j and_then k) ≡ accepted → (j ≡ accepted) × (k ≡ accepted)
+both-accepted (Ok u) k e = (refl, e)
+both-accepted (Err r) k e = absurd (never e)
   where
-    never : refused r ≡ Accepted → ⊥
+    never : Err r ≡ accepted → ⊥
     never q = let z : ◌≡◌ {A = ℕ} 0 1 = cc in omega arith
 
-pub test-passed : (b : Bool) (r : Refusal) → cond b Accepted (refused r) ≡ Accepted → b ≡ true
+pub test-passed : (b : Bool) (r : Refusal) → cond b accepted (Err r) ≡ accepted → b ≡ true
 test-passed true r e = refl
 test-passed false r e = let z : ◌≡◌ {A = ℕ} 0 1 = cc in absurd (omega arith)
 
 -- and the other way round
-pub accepted-both : (j k : Judgement) → j ≡ Accepted → k ≡ Accepted → (j and_then k) ≡ Accepted
-accepted-both Accepted k e f = f
-accepted-both (refused r) k e f = e
+pub accepted-both : (j k : Judgement) → j ≡ accepted → k ≡ accepted → (j and_then k) ≡ accepted
+accepted-both (Ok u) k e f = f
+accepted-both (Err r) k e f = e
 
-pub passed-test : (b : Bool) (r : Refusal) → b ≡ true → cond b Accepted (refused r) ≡ Accepted
+pub passed-test : (b : Bool) (r : Refusal) → b ≡ true → cond b accepted (Err r) ≡ accepted
 passed-test true r e = refl
 passed-test false r e = absurd (false≢true e)
 
@@ -64,21 +64,21 @@ read-well s (suc n) = read_more n (read_to today s n) (read_line today (n + 1) (
 -- the points of a listing: within the limits, every target a point, the last instruction STOP or JUMP
 pub record WellFormed (ps : List Point) : Type 0 where
   pub limited : All PointLimited ps
-  pub targets : all_targets_exist (length ps) ps ≡ Accepted
+  pub targets : all_targets_exist (length ps) ps ≡ accepted
   pub ends : goes_on (point_at ps (length ps - 1)).instruction ≡ false
 
 abbrev ListingWell : Listing → Type 0
 ListingWell (read_as ps) = WellFormed ps
 ListingWell (refused_listing r) = Unit {0}
 
-ends-passed : (b : Bool) (r : Refusal) → cond b (refused r) Accepted ≡ Accepted → b ≡ false
+ends-passed : (b : Bool) (r : Refusal) → cond b (Err r) accepted ≡ accepted → b ≡ false
 ends-passed false r e = refl
 ends-passed true r e = let z : ◌≡◌ {A = ℕ} 0 1 = cc in absurd (omega arith)
 
 whole-well : (lines : ℕ) (ps : List Point) (cs : List Claim) → All PointLimited ps → (j : Judgement) → whole_judged lines ps cs ≡ j → ListingWell (listing_or j ps)
 unfolding whole_judged
-whole-well lines ps cs h (refused r) e = tt
-whole-well lines ps cs h Accepted e =
+whole-well lines ps cs h (Err r) e = tt
+whole-well lines ps cs h (Ok u) e =
     let (e10, e11) = both-accepted (ends_with_instruction lines cs and_then few_points ps and_then all_targets_exist (length ps) ps and_then ends_in_place lines ps) (starts_non_empty ps) e in
     let (e9, end) = both-accepted (ends_with_instruction lines cs and_then few_points ps and_then all_targets_exist (length ps) ps) (ends_in_place lines ps) e10 in
     let (e8, target) = both-accepted (ends_with_instruction lines cs and_then few_points ps) (all_targets_exist (length ps) ps) e9 in

@@ -7,7 +7,7 @@ use native.Mathlib.Omega.{arith}
 use lib.ListN.{length, length-append}
 use lib.Dec.{ltb, leb}
 use borrow.Author.Tests.{ltb-true, lt-ltb, le-leb}
-use Rattle.model.specs.Types.{Table, Trays, Results, State, Judgement, Accepted, refused, Passed, Stopped, Paused}
+use Rattle.model.specs.Types.{Table, Trays, Results, State, Judgement, accepted, Err, Ok, Stopped, Paused}
 use Rattle.model.specs.Limits.{registers, tables, variables, greatest_size, today}
 use Rattle.model.specs.Lists.{every}
 use Rattle.model.specs.Facts.{facts_of, value_at}
@@ -28,31 +28,31 @@ use Rattle.model.proofs.Runs.{ran}
 -- what passing gives
 pub record Checked (l : List ℕ) : Type 0 where
   pub passes : Passes (points_of (listing_of l))
-  accepted : listing_judged (listing_of l) ≡ Accepted
+  accepted : listing_judged (listing_of l) ≡ accepted
 
-pub verdict-accepted : (n k : ℕ) (j : Judgement) → verdict_from n j ≡ Passed k → j ≡ Accepted
-verdict-accepted n k Accepted e = refl
-verdict-accepted n k (refused r) e = let z : ◌≡◌ {A = ℕ} 0 1 = cc in absurd (omega arith)
+pub verdict-accepted : (n k : ℕ) (j : Judgement) → verdict_from n j ≡ Ok k → j ≡ accepted
+verdict-accepted n k (Ok u) e = refl
+verdict-accepted n k (Err r) e = let z : ◌≡◌ {A = ℕ} 0 1 = cc in absurd (omega arith)
 
-pub checked : (l : List ℕ) (k : ℕ) → check l ≡ Passed k → Checked l
+pub checked : (l : List ℕ) (k : ℕ) → check l ≡ Ok k → Checked l
 unfolding check_within
 checked l k e = go (listing_of l) refl e
   where
-    go : (x : Listing) → listing_of l ≡ x → verdict_within today x ≡ Passed k → Checked l
+    go : (x : Listing) → listing_of l ≡ x → verdict_within today x ≡ Ok k → Checked l
     go (refused_listing r) q v = let z : ◌≡◌ {A = ℕ} 0 1 = cc in absurd (omega arith)
     go (read_as ps) q v =
-        let j : points_judged today ps (length ps) ≡ Accepted = verdict-accepted (length ps) k _ v in
+        let j : points_judged today ps (length ps) ≡ accepted = verdict-accepted (length ps) k _ v in
         record {
           passes = rw q (record { formed = well-formed l ps q; owed = each-accepted ps (length ps) j });
           accepted = rw q j;
         }
 
 -- an accepted listing is passed
-pub passed : (l : List ℕ) → listing_judged (listing_of l) ≡ Accepted → check l ≡ Passed (length (points_of (listing_of l)))
+pub passed : (l : List ℕ) → listing_judged (listing_of l) ≡ accepted → check l ≡ Ok (length (points_of (listing_of l)))
 unfolding check_within
 passed l e = go (listing_of l) e
   where
-    go : (x : Listing) → listing_judged x ≡ Accepted → verdict_within today x ≡ Passed (length (points_of x))
+    go : (x : Listing) → listing_judged x ≡ accepted → verdict_within today x ≡ Ok (length (points_of x))
     go (read_as ps) e = ap (verdict_from (length ps)) e
     go (refused_listing r) e = let z : ◌≡◌ {A = ℕ} 0 1 = cc in absurd (omega arith)
 
@@ -122,14 +122,14 @@ module _ (ps : List Point) (passes : Passes ps) (sizes : List ℕ) where
 
 module _ (l : List ℕ) (h : Checked l) (sizes : List ℕ) where
   -- nothing turns the run back
-  not-refused : (s : State) (t : Tables) → Good (points_of (listing_of l)) sizes (config_of s t) → run_judged l s (sizes_of t) ≡ Accepted
+  not-refused : (s : State) (t : Tables) → Good (points_of (listing_of l)) sizes (config_of s t) → run_judged l s (sizes_of t) ≡ accepted
   unfolding run_judged_within every
   not-refused s t g =
       let ps = points_of (listing_of l) in
       let small : (b : Table) → leb (length (table_of b t)) greatest_size ≡ true = λ b. le-leb _ _ (size_fits_lem ps h.passes sizes (config_of s t) g.typed b) in
-      let fits : tables_fit (sizes_of t) ≡ Accepted = passed-test _ _ (and_both _ _ (small Trays) (and_both _ _ (small Results) refl)) in
-      let exists : point_exists ps s.point ≡ Accepted = passed-test _ _ (lt-ltb _ _ g.exists) in
-      let claims : claims_met ps s (sizes_of t) ≡ Accepted = passed-test _ _ (subst (λ (z : List ℕ). meets_claims ps s z ≡ true) (sym g.typed.tables.size) (good-meets ps h.passes sizes (config_of s t) g)) in
+      let fits : tables_fit (sizes_of t) ≡ accepted = passed-test _ _ (and_both _ _ (small Trays) (and_both _ _ (small Results) refl)) in
+      let exists : point_exists ps s.point ≡ accepted = passed-test _ _ (lt-ltb _ _ g.exists) in
+      let claims : claims_met ps s (sizes_of t) ≡ accepted = passed-test _ _ (subst (λ (z : List ℕ). meets_claims ps s z ≡ true) (sym g.typed.tables.size) (good-meets ps h.passes sizes (config_of s t) g)) in
       accepted-both _ _ h.accepted (accepted-both _ _ (accepted-both _ _ fits exists) claims)
 
   kept : (s : State) → length s.registers ≡ registers → meets_claims (points_of (listing_of l)) s sizes ≡ true → (ks : List Call) → AllLend sizes ks → Kept l sizes s ks

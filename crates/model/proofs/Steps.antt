@@ -7,7 +7,7 @@ use native.Mathlib.Nat.{add-zero, add-suc, not-suc-le-zero, le_of_suc-le-suc}
 use native.Mathlib.Omega.{arith}
 use native.Mathlib.Decide.{ℕ_discrete, dec_lt}
 use lib.ListN.{length, get_or}
-use Rattle.model.specs.Types.{Accepted}
+use Rattle.model.specs.Types.{accepted}
 use Rattle.model.specs.Limits.{today}
 use Rattle.model.specs.Instructions.{targets, goes_on}
 use Rattle.model.specs.Listing.{Point, is_empty, point_at, targets_exist, all_targets_exist}
@@ -29,18 +29,18 @@ steps-add ps k (suc j) m = rw add-suc (ap (onward ps) (steps-add ps k j m))
 -- the points of a listing that passes: well-formed, and each point has what it owes
 pub record Passes (ps : List Point) : Type 0 where
   pub formed : WellFormed ps
-  pub owed : (p : ℕ) → p < length ps → point_judged today ps p (point_at ps p) ≡ Accepted
+  pub owed : (p : ℕ) → p < length ps → point_judged today ps p (point_at ps p) ≡ accepted
 
-pub each-accepted : (ps : List Point) (n : ℕ) → points_judged today ps n ≡ Accepted → (p : ℕ) → p < n → point_judged today ps p (point_at ps p) ≡ Accepted
+pub each-accepted : (ps : List Point) (n : ℕ) → points_judged today ps n ≡ accepted → (p : ℕ) → p < n → point_judged today ps p (point_at ps p) ≡ accepted
 unfolding points_judged
 each-accepted ps zero e p h = absurd (not-suc-le-zero h)
 each-accepted ps (suc n) e p h = go (ℕ_discrete p n) (each-accepted ps n (both-accepted (points_judged today ps n) _ e).0)
   where
-    go : Dec (p ≡ n) → ((q : ℕ) → q < n → point_judged today ps q (point_at ps q) ≡ Accepted) → point_judged today ps p (point_at ps p) ≡ Accepted
+    go : Dec (p ≡ n) → ((q : ℕ) → q < n → point_judged today ps q (point_at ps q) ≡ accepted) → point_judged today ps p (point_at ps p) ≡ accepted
     go (yes q) f = rw q (both-accepted (points_judged today ps n) _ e).1
     go (no q) f = f p (omega arith)
 
-pub targets-at : (n : ℕ) (qs : List Point) (d : Point) (p : ℕ) → p < length qs → all_targets_exist n qs ≡ Accepted → targets_exist n (get_or qs p d).line (targets (get_or qs p d).instruction) ≡ Accepted
+pub targets-at : (n : ℕ) (qs : List Point) (d : Point) (p : ℕ) → p < length qs → all_targets_exist n qs ≡ accepted → targets_exist n (get_or qs p d).line (targets (get_or qs p d).instruction) ≡ accepted
 targets-at n [] d p h e = absurd (not-suc-le-zero h)
 targets-at n (q ∷ qs) d zero h e = (both-accepted (targets_exist n q.line (targets q.instruction)) _ e).0
 targets-at n (q ∷ qs) d (suc p) h e = targets-at n qs d p (le_of_suc-le-suc h) (both-accepted (targets_exist n q.line (targets q.instruction)) _ e).1

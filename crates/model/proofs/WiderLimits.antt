@@ -8,7 +8,7 @@ use native.Mathlib.Omega.{arith}
 use lib.Dec.{leb, eqb}
 use lib.ListN.{length, get_or-eq_default}
 use borrow.Author.Tests.{leb-true, le-leb}
-use Rattle.model.specs.Types.{Field, Word, FoundWord, Unknown, Known, Content, a_register, a_variable, a_target, a_width, a_table, a_scale, an_offset, a_number, a_choice, an_operand, a_claimed, a_bound, Kind, empty, plain, optional, signed, Operand, variable, number, Instruction, Stop, Setc, Copy, Addw, Subw, Mulw, Divf, Load, Stor, Jump, Bltu, Bequ, Divm, Edge, Next, Target, Range, Stripe, Claim, Line, refused_line, claim_line, instruction_line, Judgement, Accepted, refused, Passed, State, ListingLength, LineBytes, NumberLimits, FieldShape}
+use Rattle.model.specs.Types.{Field, Word, Option, None, Some, Content, a_register, a_variable, a_target, a_width, a_table, a_scale, an_offset, a_number, a_choice, an_operand, a_claimed, a_bound, Kind, empty, plain, optional, signed, Operand, variable, number, Instruction, Stop, Setc, Copy, Addw, Subw, Mulw, Divf, Load, Stor, Jump, Bltu, Bequ, Divm, Edge, Next, Target, Range, Stripe, Claim, Line, refused_line, claim_line, instruction_line, Judgement, accepted, Err, Ok, State, ListingLength, LineBytes, NumberLimits, FieldShape}
 use Rattle.model.specs.Limits.{StripeLimits, today, earlier, blank_variable, line_bytes}
 use Rattle.model.specs.Text.{value_in}
 use Rattle.model.specs.Words.{words, word_among, shaped, within, allowed}
@@ -67,29 +67,29 @@ module _ (L M : StripeLimits) (wider : Wider L M) where
       all-below (λ (j : ℕ). allowed M (kind_at w j) (F1 fs) (F5 fs) (field_at fs j)) 6
       (λ j h. allowed-kept (kind_at w j) (F1 fs) (F5 fs) (field_at fs j) (every-below (λ (j : ℕ). allowed L (kind_at w j) (F1 fs) (F5 fs) (field_at fs j)) 6 e j h))
 
-  judged-kept : (place : ℕ) (w : FoundWord) (fs : List Field) → judged L place w fs ≡ Accepted → judged M place w fs ≡ Accepted
+  judged-kept : (place : ℕ) (w : Option Word) (fs : List Field) → judged L place w fs ≡ accepted → judged M place w fs ≡ accepted
   unfolding judged
-  judged-kept place Unknown fs e = e
-  judged-kept place (Known w) fs e = go (in_shape w fs) (in_limits L w fs) (in_limits M w fs) (limits-kept w fs) e
+  judged-kept place None fs e = e
+  judged-kept place (Some w) fs e = go (in_shape w fs) (in_limits L w fs) (in_limits M w fs) (limits-kept w fs) e
     where
       judge : Bool → Bool → Judgement
-      judge a b = cond a (cond b (registers_judged place w fs) (refused (NumberLimits place))) (refused (FieldShape place))
+      judge a b = cond a (cond b (registers_judged place w fs) (Err (NumberLimits place))) (Err (FieldShape place))
 
-      go : (a b c : Bool) → (b ≡ true → c ≡ true) → judge a b ≡ Accepted → judge a c ≡ Accepted
+      go : (a b c : Bool) → (b ≡ true → c ≡ true) → judge a b ≡ accepted → judge a c ≡ accepted
       go true true true f q = q
       go true true false f q = absurd (false≢true (f refl))
       go true false c f q = let z : ◌≡◌ {A = ℕ} 0 1 = cc in absurd (omega arith)
       go false b c f q = q
 
   -- a line that is taken is taken as the same claim or instruction
-  found-kept : (place : ℕ) (w : FoundWord) (fs : List Field) → is_taken (line_found L place w fs) ≡ true → line_found M place w fs ≡ line_found L place w fs
+  found-kept : (place : ℕ) (w : Option Word) (fs : List Field) → is_taken (line_found L place w fs) ≡ true → line_found M place w fs ≡ line_found L place w fs
   unfolding judged
-  found-kept place Unknown fs e = refl
-  found-kept place (Known w) fs e = go (judged L place (Known w) fs) (judged-kept place (Known w) fs) e
+  found-kept place None fs e = refl
+  found-kept place (Some w) fs e = go (judged L place (Some w) fs) (judged-kept place (Some w) fs) e
     where
-      go : (j : Judgement) → (j ≡ Accepted → judged M place (Known w) fs ≡ Accepted) → is_taken (line_or j (line_from w fs)) ≡ true → line_or (judged M place (Known w) fs) (line_from w fs) ≡ line_or j (line_from w fs)
-      go Accepted f t = ap (λ (k : Judgement). line_or k (line_from w fs)) (f refl)
-      go (refused r) f t = absurd (false≢true t)
+      go : (j : Judgement) → (j ≡ accepted → judged M place (Some w) fs ≡ accepted) → is_taken (line_or j (line_from w fs)) ≡ true → line_or (judged M place (Some w) fs) (line_from w fs) ≡ line_or j (line_from w fs)
+      go (Ok u) f t = ap (λ (k : Judgement). line_or k (line_from w fs)) (f refl)
+      go (Err r) f t = absurd (false≢true t)
 
   line_kept : (place : ℕ) (l : List ℕ) → is_taken (read_line L place l) ≡ true → read_line M place l ≡ read_line L place l
   unfolding read_line
@@ -171,10 +171,10 @@ module _ (L M : StripeLimits) (wider : Wider L M) where
   module _ (ps : List Point) (limited : All PointLimited ps) where
     -- a point past the last has no claims
     at-point : (l p : ℕ) (rs : List Range) {ss ts : List Stripe} → Included ss ts
-        → claims_judged l (record { ranges = rs; stripes = ss }) (point_at ps p) ≡ Accepted → claims_judged l (record { ranges = rs; stripes = ts }) (point_at ps p) ≡ Accepted
+        → claims_judged l (record { ranges = rs; stripes = ss }) (point_at ps p) ≡ accepted → claims_judged l (record { ranges = rs; stripes = ts }) (point_at ps p) ≡ accepted
     at-point l p rs {ss} {ts} more e = go (dec_lt p (length ps))
       where
-        go : Dec (p < length ps) → claims_judged l (record { ranges = rs; stripes = ts }) (point_at ps p) ≡ Accepted
+        go : Dec (p < length ps) → claims_judged l (record { ranges = rs; stripes = ts }) (point_at ps p) ≡ accepted
         go (yes inside) =
             let lim : PointLimited (point_at ps p) = all-at PointLimited ps _ p inside limited in
             claims-kept rs ss ts more l (point_at ps p) (omega (arith, lim.before)) e
@@ -182,28 +182,28 @@ module _ (L M : StripeLimits) (wider : Wider L M) where
             let none : point_at ps p ≡ record { line = 0; claims = []; instruction = Stop } = get_or-eq_default ps _ (omega arith) in
             no-claims l (record { ranges = rs; stripes = ts }) (point_at ps p) (ap (λ (q : Point). q.claims) none)
 
-    edges-kept : (p : ℕ) (q : Point) (es : List Edge) → edges_judged L ps p q es ≡ Accepted → edges_judged M ps p q es ≡ Accepted
+    edges-kept : (p : ℕ) (q : Point) (es : List Edge) → edges_judged L ps p q es ≡ accepted → edges_judged M ps p q es ≡ accepted
     unfolding facts_along
     edges-kept p q [] e = e
     edges-kept p q (x ∷ es) e =
         let (first, rest) = both-accepted (claims_judged q.line (facts_along L x q.instruction (facts_of q.claims)) (point_at ps (leads_to p x))) _ e in
         accepted-both _ _ (at-point q.line (leads_to p x) _ (stripes-included x q.instruction (facts_of q.claims).ranges (facts_of q.claims).stripes) first) (edges-kept p q es rest)
 
-    owed-kept : (p : ℕ) (q : Point) → owed_judged L ps p q ≡ Accepted → owed_judged M ps p q ≡ Accepted
+    owed-kept : (p : ℕ) (q : Point) → owed_judged L ps p q ≡ accepted → owed_judged M ps p q ≡ accepted
     unfolding owed_judged
     owed-kept p q e =
         let (safe, rest) = both-accepted (safety_judged q.line (facts_of q.claims) q.instruction) _ e in
         accepted-both _ _ safe (edges-kept p q (edges q.instruction) rest)
 
-    point-kept : (p : ℕ) (q : Point) → point_judged L ps p q ≡ Accepted → point_judged M ps p q ≡ Accepted
+    point-kept : (p : ℕ) (q : Point) → point_judged L ps p q ≡ accepted → point_judged M ps p q ≡ accepted
     unfolding point_judged
     point-kept p q e = go (is_empty q) e
       where
-        go : (b : Bool) → cond b Accepted (owed_judged L ps p q) ≡ Accepted → cond b Accepted (owed_judged M ps p q) ≡ Accepted
+        go : (b : Bool) → cond b accepted (owed_judged L ps p q) ≡ accepted → cond b accepted (owed_judged M ps p q) ≡ accepted
         go true t = refl
         go false t = owed-kept p q t
 
-    points_kept : (n : ℕ) → points_judged L ps n ≡ Accepted → points_judged M ps n ≡ Accepted
+    points_kept : (n : ℕ) → points_judged L ps n ≡ accepted → points_judged M ps n ≡ accepted
     unfolding points_judged
     points_kept zero e = refl
     points_kept (suc n) e =
@@ -212,7 +212,7 @@ module _ (L M : StripeLimits) (wider : Wider L M) where
 
   -- runs
 
-  runs-kept : (l : List ℕ) (ps : List Point) → listing_within L l ≡ read_as ps → listing_within M l ≡ read_as ps → points_judged L ps (length ps) ≡ Accepted → points_judged M ps (length ps) ≡ Accepted
+  runs-kept : (l : List ℕ) (ps : List Point) → listing_within L l ≡ read_as ps → listing_within M l ≡ read_as ps → points_judged L ps (length ps) ≡ accepted → points_judged M ps (length ps) ≡ accepted
       → (s : State) (t : Tables) (budget : ℕ) → run_within M l s t budget ≡ run_within L l s t budget
   unfolding run_within run_judged_within
   runs-kept l ps u v j k s t budget = rw (u, v, j, k) refl
@@ -225,12 +225,12 @@ pub earlier-passes-stand : EarlierPassesStand
 unfolding check_within
 earlier-passes-stand l points e = go (listing_within earlier l) refl e
   where
-    go : (x : Listing) → listing_within earlier l ≡ x → verdict_within earlier x ≡ Passed points → PassesAlike l points
+    go : (x : Listing) → listing_within earlier l ≡ x → verdict_within earlier x ≡ Ok points → PassesAlike l points
     go (refused_listing r) q v = let z : ◌≡◌ {A = ℕ} 0 1 = cc in absurd (omega arith)
     go (read_as ps) q v =
         let read : listing_within today l ≡ read_as ps = listing-kept earlier today wider-today l ps q in
-        let j : points_judged earlier ps (length ps) ≡ Accepted = verdict-accepted (length ps) points _ v in
-        let k : points_judged today ps (length ps) ≡ Accepted = points_kept earlier today wider-today ps (well-formed l ps read).limited (length ps) j in
+        let j : points_judged earlier ps (length ps) ≡ accepted = verdict-accepted (length ps) points _ v in
+        let k : points_judged today ps (length ps) ≡ accepted = points_kept earlier today wider-today ps (well-formed l ps read).limited (length ps) j in
         record {
           passes = rw read (ap (verdict_from (length ps)) (k ∙ sym j) ∙ v);
           read = read ∙ sym q;

@@ -1,6 +1,6 @@
 -- Document 01, 'Turned back, in checking order', with the numbers 18 to 20 of document 02: the number, the place and the second place of each refusal.
 use Rattle.std.specs.Prelude.{ℕ, Bool, true, false}
-use Rattle.model.specs.Types.{Refusal, ListingLength, LineBytes, UnknownWord, FieldShape, NumberLimits, ClaimOrder, LastLineClaim, TooManyPoints, NoSuchTarget, NoEnd, EmptyStart, DivisorMayBeZero, AccessMayLeave, ClaimMayFail, TableLength, NoSuchPoint, ClaimsNotMet, NoRoom, SameRegister, UncoveredEdge, Judgement, Accepted, refused}
+use Rattle.model.specs.Types.{Refusal, ListingLength, LineBytes, UnknownWord, FieldShape, NumberLimits, ClaimOrder, LastLineClaim, TooManyPoints, NoSuchTarget, NoEnd, EmptyStart, DivisorMayBeZero, AccessMayLeave, ClaimMayFail, TableLength, NoSuchPoint, ClaimsNotMet, NoRoom, SameRegister, UncoveredEdge, Judgement, Err, Ok}
 
 -- the number of a refusal
 abbrev pub number_of : Refusal → ℕ
@@ -73,12 +73,12 @@ second_place_of (UncoveredEdge l) = 0
 
 -- whether a judgement turns back
 abbrev pub is_refused : Judgement → Bool
-is_refused Accepted = false
-is_refused (refused r) = true
+is_refused (Ok u) = false
+is_refused (Err r) = true
 
 -- of two tests made in order, the first refusal
 abbrev pub ◌and_then◌ : Judgement → Judgement → Judgement
-Accepted and_then j = j
-refused r and_then j = refused r
+Ok u and_then j = j
+Err r and_then j = Err r
 
 infixl 20 ◌and_then◌

@@ -1,7 +1,7 @@
 -- Document 02, T-05: how many steps a passed listing needs at most from point 0, refusal 20, and the promise of the bound.
 -- Which edges go back is told by the text alone: impossible ones count too, and those of points that nothing reaches.
 use Rattle.std.specs.Prelude.{ℕ, zero, suc, ◌+◌, ◌*◌, ◌≤◌, ◌≡◌, Bool, true, false, not, ◌&&◌, ◌||◌, cond, List, [], ◌∷◌, length, leb, eqb}
-use Rattle.model.specs.Types.{Operand, variable, number, Instruction, Stop, Setc, Copy, Addw, Subw, Mulw, Divf, Load, Stor, Jump, Bltu, Bequ, Divm, Claim, Leas, Most, Strp, Turn, Turning, no_turn, turning, State, UncoveredEdge, Judgement, Accepted, refused, StepBound, Bounded, refused_bound, Stopped}
+use Rattle.model.specs.Types.{Operand, variable, number, Instruction, Stop, Setc, Copy, Addw, Subw, Mulw, Divf, Load, Stor, Jump, Bltu, Bequ, Divm, Claim, Leas, Most, Strp, Turn, Option, None, Some, State, UncoveredEdge, Judgement, accepted, Err, StepBound, Ok, Stopped}
 use Rattle.model.specs.Limits.{registers}
 use Rattle.model.specs.Lists.{every, some, among}
 use Rattle.model.specs.Answers.{◌and_then◌}
@@ -13,15 +13,15 @@ use Rattle.model.specs.Run.{meets_claims}
 use Rattle.model.specs.Safety.{Call, AllLend, ran_on}
 
 -- the register of a TURN that is the first of some claims
-abbrev pub turn_among : List Claim → Turning
-turn_among [] = no_turn
-turn_among (Leas v n ∷ cs) = no_turn
-turn_among (Most v n ∷ cs) = no_turn
-turn_among (Strp s ∷ cs) = no_turn
-turn_among (Turn r ∷ cs) = turning r
+abbrev pub turn_among : List Claim → Option ℕ
+turn_among [] = None
+turn_among (Leas v n ∷ cs) = None
+turn_among (Most v n ∷ cs) = None
+turn_among (Strp s ∷ cs) = None
+turn_among (Turn r ∷ cs) = Some r
 
 -- the 'TURN register' of a listing, whose first line is the first claim line of point 0
-abbrev pub turn_of : List Point → Turning
+abbrev pub turn_of : List Point → Option ℕ
 turn_of ps = turn_among (point_at ps 0).claims
 
 -- a 'backward edge' of the p-th point's instruction: its target is p or an earlier point
@@ -67,20 +67,20 @@ written_before ps r zero = false
 written_before ps r (suc p) = writes_to r (point_at ps p)
 
 -- a backward edge of the p-th point is 'covered'
-unfoldable pub covered : List Point → Turning → ℕ → Bool
+unfoldable pub covered : List Point → Option ℕ → ℕ → Bool
 unfolding some every facts_of
-covered ps no_turn p = false
-covered ps (turning r) p =
+covered ps None p = false
+covered ps (Some r) p =
     is_jump (point_at ps p).instruction && not (is_target ps p) && written_before ps r p && every (only_takes r) ps
 
 -- 20: if the p-th point, q, has a backward edge, it is covered
 abbrev pub edge_covered : List Point → ℕ → Point → Judgement
-edge_covered ps p q = cond (goes_back p q.instruction) (cond (covered ps (turn_of ps) p) Accepted (refused (UncoveredEdge q.line))) Accepted
+edge_covered ps p q = cond (goes_back p q.instruction) (cond (covered ps (turn_of ps) p) accepted (Err (UncoveredEdge q.line))) accepted
 
 -- 20 for the first n points, in order
 unfoldable pub edges_covered : List Point → ℕ → Judgement
 unfolding some covered
-edges_covered ps zero = Accepted
+edges_covered ps zero = accepted
 edges_covered ps (suc n) = edges_covered ps n and_then edge_covered ps n (point_at ps n)
 
 -- one of the first n points has a backward edge
@@ -90,9 +90,9 @@ any_goes_back ps zero = false
 any_goes_back ps (suc n) = any_goes_back ps n || goes_back n (point_at ps n).instruction
 
 -- one more than the high end that the TURN register has at point 0; without a TURN no backward edge is covered, and 1 stands for it
-abbrev pub rounds_of : List Point → Turning → ℕ
-rounds_of ps no_turn = 1
-rounds_of ps (turning r) = hi (facts_of (point_at ps 0).claims).ranges r + 1
+abbrev pub rounds_of : List Point → Option ℕ → ℕ
+rounds_of ps None = 1
+rounds_of ps (Some r) = hi (facts_of (point_at ps 0).claims).ranges r + 1
 
 -- the 'bound': points × (hi + 1), or the points where nothing goes back
 unfoldable pub bound_of : List Point → ℕ
@@ -101,8 +101,8 @@ bound_of ps = cond (any_goes_back ps (length ps)) (length ps * rounds_of ps (tur
 
 -- the bound, where nothing turns the call back
 abbrev pub bound_from : List Point → Judgement → StepBound
-bound_from ps Accepted = Bounded (bound_of ps)
-bound_from ps (refused r) = refused_bound r
+bound_from ps (Ok u) = Ok (bound_of ps)
+bound_from ps (Err r) = Err r
 
 -- the answer of the call: 1 to 14 and 19, then 20, and the bound
 unfoldable pub step_bound : List ℕ → StepBound
@@ -136,6 +136,6 @@ pub record StopsWithin (bound : ℕ) (l : List ℕ) (s : State) (calls : List Ca
 -- of the listing nothing is assumed but the answer of the call
 abbrev pub BoundHolds : Type 0
 BoundHolds =
-    (l : List ℕ) (bound : ℕ) → step_bound l ≡ Bounded bound →
+    (l : List ℕ) (bound : ℕ) → step_bound l ≡ Ok bound →
     (sizes : List ℕ) (s : State) → length s.registers ≡ registers → s.point ≡ 0 → meets_claims (points_of (listing_of l)) s sizes ≡ true →
     (calls : List Call) → AllLend sizes calls → StopsWithin bound l s calls

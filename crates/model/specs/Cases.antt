@@ -11,7 +11,7 @@
 -- A listing is written a row a line: the word and the six fields, each as the text that stands at the right of its columns.
 use Rattle.std.specs.Prelude.{ℕ, zero, suc, ◌+◌, ◌-◌, List, [], ◌∷◌, ◌++◌, length, replicate}
 use Prim.Native.String.{String}
-use Rattle.model.specs.Types.{Field, Blank, Number, Negative, variable, number, Instruction, Stop, Copy, Addw, Subw, Mulw, Jump, Bltu, Bequ, Divm, Divf, Next, Stripe, Claim, Leas, Most, Strp, Turn, State, Refusal, Judgement, Accepted, refused, StepBound, Bounded, refused_bound, Verdict, Passed, refused_verdict, Report, Stopped, Paused, refused_run}
+use Rattle.model.specs.Types.{Field, Blank, Number, Negative, variable, number, Instruction, Stop, Copy, Addw, Subw, Mulw, Jump, Bltu, Bequ, Divm, Divf, Next, Stripe, Claim, Leas, Most, Strp, Turn, State, Refusal, Judgement, Err, StepBound, Ok, Verdict, Report, Stopped, Paused, refused_run}
 use Rattle.model.specs.Limits.{blank_variable, StripeLimits, today, earlier}
 use Rattle.model.specs.Text.{space}
 use Rattle.model.specs.Words.{bytes}
@@ -642,13 +642,13 @@ of_refusal r = refused_by (number_of r) (place_of r) (second_place_of r)
 
 -- the checker's answer in numbers
 abbrev of_verdict : Verdict → Answer
-of_verdict (Passed n) = passes n
-of_verdict (refused_verdict r) = of_refusal r
+of_verdict (Ok n) = passes n
+of_verdict (Err r) = of_refusal r
 
 -- a bound in numbers
 abbrev of_bound : StepBound → Answer
-of_bound (Bounded n) = bounds n
-of_bound (refused_bound r) = of_refusal r
+of_bound (Ok n) = bounds n
+of_bound (Err r) = of_refusal r
 
 -- a run's report in numbers
 abbrev of_report : Report → Answer
@@ -658,8 +658,8 @@ of_report (refused_run r) = of_refusal r
 
 -- the outcome of some tests in numbers
 abbrev of_judgement : Judgement → Answer
-of_judgement Accepted = accepts
-of_judgement (refused r) = of_refusal r
+of_judgement (Ok u) = accepts
+of_judgement (Err r) = of_refusal r
 
 -- what a call hands back: an answer alone, a line, an answer with a listing or a part of it, or a run's answer, steps, state, trays and results
 pub data HandedBack : Type 0 where

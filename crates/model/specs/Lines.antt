@@ -3,7 +3,7 @@
 -- 3, 4, 5 and 19 look at the word and the fields alone, so that a writer of lines can be held to the same judgement.
 use Rattle.std.specs.Prelude.{ℕ, zero, suc, ◌+◌, ◌*◌, Bool, true, not, ◌&&◌, List, [], ◌∷◌, get_or, set, leb, eqb}
 use Rattle.std.proofs.Math.Bool.{cond}
-use Rattle.model.specs.Types.{Field, Blank, Number, Negative, Misshapen, Word, STOP, SETC, COPY, ADDW, SUBW, MULW, DIVF, LOAD, STOR, JUMP, BLTU, BEQU, LEAS, MOST, STRP, DIVM, TURN, FoundWord, Unknown, Known, Kind, empty, Width, One, Two, Four, Table, Trays, Results, Operand, variable, number, Stop, Setc, Copy, Addw, Subw, Mulw, Divf, Load, Stor, Jump, Bltu, Bequ, Divm, Leas, Most, Strp, Turn, Line, refused_line, claim_line, instruction_line, LineBytes, UnknownWord, FieldShape, NumberLimits, SameRegister, Judgement, Accepted, refused}
+use Rattle.model.specs.Types.{Field, Blank, Number, Negative, Misshapen, Word, STOP, SETC, COPY, ADDW, SUBW, MULW, DIVF, LOAD, STOR, JUMP, BLTU, BEQU, LEAS, MOST, STRP, DIVM, TURN, Option, None, Some, Kind, empty, Width, One, Two, Four, Table, Trays, Results, Operand, variable, number, Stop, Setc, Copy, Addw, Subw, Mulw, Divf, Load, Stor, Jump, Bltu, Bequ, Divm, Leas, Most, Strp, Turn, Line, refused_line, claim_line, instruction_line, LineBytes, UnknownWord, FieldShape, NumberLimits, SameRegister, Judgement, accepted, Err, Ok}
 use Rattle.model.specs.Limits.{blank_variable, StripeLimits}
 use Rattle.model.specs.Lists.{every_below}
 use Rattle.model.specs.Text.{space, line_end, field_of, value_in, field_set}
@@ -100,15 +100,15 @@ registers_differ TURN fs = true
 
 -- 19, for a word whose fields are in shape and within their limits
 abbrev pub registers_judged : ℕ → Word → List Field → Judgement
-registers_judged place w fs = cond (registers_differ w fs) Accepted (refused (SameRegister place))
+registers_judged place w fs = cond (registers_differ w fs) accepted (Err (SameRegister place))
 
 -- within these limits of scales and bounds
 module _ (L : StripeLimits) where
   -- 3, 4, 5 and 19: a word and its fields, judged with a line number for place
-  unfoldable pub judged : ℕ → FoundWord → List Field → Judgement
+  unfoldable pub judged : ℕ → Option Word → List Field → Judgement
   unfolding in_shape in_limits registers_differ
-  judged place Unknown fs = refused (UnknownWord place)
-  judged place (Known w) fs = cond (in_shape w fs) (cond (in_limits L w fs) (registers_judged place w fs) (refused (NumberLimits place))) (refused (FieldShape place))
+  judged place None fs = Err (UnknownWord place)
+  judged place (Some w) fs = cond (in_shape w fs) (cond (in_limits L w fs) (registers_judged place w fs) (Err (NumberLimits place))) (Err (FieldShape place))
 
 -- the width that a number within its limits stands for
 abbrev pub width_from : ℕ → Width
@@ -167,15 +167,15 @@ line_from TURN fs = claim_line (Turn (F1 fs))
 
 -- the line, where nothing turns it back
 abbrev pub line_or : Judgement → Line → Line
-line_or Accepted l = l
-line_or (refused r) l = refused_line r
+line_or (Ok u) l = l
+line_or (Err r) l = refused_line r
 
 -- within these limits of scales and bounds
 module _ (L : StripeLimits) where
   -- the line of a word that was found, or not, with its fields
-  abbrev pub line_found : ℕ → FoundWord → List Field → Line
-  line_found place Unknown fs = line_or (judged L place Unknown fs) (refused_line (UnknownWord place))
-  line_found place (Known w) fs = line_or (judged L place (Known w) fs) (line_from w fs)
+  abbrev pub line_found : ℕ → Option Word → List Field → Line
+  line_found place None fs = line_or (judged L place None fs) (refused_line (UnknownWord place))
+  line_found place (Some w) fs = line_or (judged L place (Some w) fs) (line_from w fs)
 
   -- a line of 40 bytes with its number, read
   unfoldable pub read_line : ℕ → List ℕ → Line

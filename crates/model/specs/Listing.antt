@@ -5,7 +5,7 @@ use Rattle.std.specs.Prelude.{Bool, true, false, not, ◌&&◌, get_or, take, dr
 use Rattle.std.proofs.Math.Bool.{cond}
 use mathlib.Core.List.{List, [], ◌∷◌, ◌++◌}
 use Rattle.std.proofs.Math.ListN.{length}
-use Rattle.model.specs.Types.{Instruction, Stop, Claim, Leas, Most, Strp, Turn, Line, refused_line, claim_line, instruction_line, Refusal, ListingLength, ClaimOrder, LastLineClaim, TooManyPoints, NoSuchTarget, NoEnd, EmptyStart, NoSuchPoint, Judgement, Accepted, refused, ClaimPart}
+use Rattle.model.specs.Types.{Instruction, Stop, Claim, Leas, Most, Strp, Turn, Line, refused_line, claim_line, instruction_line, Refusal, ListingLength, ClaimOrder, LastLineClaim, TooManyPoints, NoSuchTarget, NoEnd, EmptyStart, NoSuchPoint, Judgement, accepted, Result, Err, ClaimPart, Ok}
 use Rattle.model.specs.Limits.{line_bytes, greatest_listing, greatest_points, greatest_stripes, StripeLimits, today}
 use Rattle.model.specs.Answers.{◌and_then◌}
 use Rattle.model.specs.Instructions.{targets, goes_on}
@@ -100,30 +100,30 @@ point_at ps p = get_or ps p (record { line = 0; claims = []; instruction = Stop 
 
 -- 7: no claim is left without its instruction
 abbrev pub ends_with_instruction : ℕ → List Claim → Judgement
-ends_with_instruction lines [] = Accepted
-ends_with_instruction lines (c ∷ cs) = refused (LastLineClaim lines)
+ends_with_instruction lines [] = accepted
+ends_with_instruction lines (c ∷ cs) = Err (LastLineClaim lines)
 
 -- 8: there are at most 512 points
 abbrev pub few_points : List Point → Judgement
-few_points ps = cond (leb (length ps) greatest_points) Accepted (refused (TooManyPoints (point_at ps greatest_points).line))
+few_points ps = cond (leb (length ps) greatest_points) accepted (Err (TooManyPoints (point_at ps greatest_points).line))
 
 -- 9: the targets ts of an instruction on line l are points of the listing, of which there are n
 abbrev pub targets_exist : ℕ → ℕ → List ℕ → Judgement
-targets_exist n l [] = Accepted
-targets_exist n l (t ∷ ts) = cond (ltb t n) Accepted (refused (NoSuchTarget l)) and_then targets_exist n l ts
+targets_exist n l [] = accepted
+targets_exist n l (t ∷ ts) = cond (ltb t n) accepted (Err (NoSuchTarget l)) and_then targets_exist n l ts
 
 -- 9, for every point in order
 abbrev pub all_targets_exist : ℕ → List Point → Judgement
-all_targets_exist n [] = Accepted
+all_targets_exist n [] = accepted
 all_targets_exist n (q ∷ qs) = targets_exist n q.line (targets q.instruction) and_then all_targets_exist n qs
 
 -- 10: the last instruction is STOP or JUMP
 abbrev pub ends_in_place : ℕ → List Point → Judgement
-ends_in_place lines ps = cond (goes_on (point_at ps (length ps - 1)).instruction) (refused (NoEnd lines)) Accepted
+ends_in_place lines ps = cond (goes_on (point_at ps (length ps - 1)).instruction) (Err (NoEnd lines)) accepted
 
 -- 11: point 0 is not empty
 abbrev pub starts_non_empty : List Point → Judgement
-starts_non_empty ps = cond (is_empty (point_at ps 0)) (refused (EmptyStart (point_at ps 0).line)) Accepted
+starts_non_empty ps = cond (is_empty (point_at ps 0)) (Err (EmptyStart (point_at ps 0).line)) accepted
 
 -- 7 to 11, in order
 unfoldable pub whole_judged : ℕ → List Point → List Claim → Judgement
@@ -138,8 +138,8 @@ pub data Listing : Type 0 where
 
 -- the points, where nothing turns the listing back
 abbrev pub listing_or : Judgement → List Point → Listing
-listing_or Accepted ps = read_as ps
-listing_or (refused r) ps = refused_listing r
+listing_or (Ok u) ps = read_as ps
+listing_or (Err r) ps = refused_listing r
 
 -- a listing of so many lines that were read
 abbrev pub listing_from : ℕ → Reading → Listing
@@ -171,12 +171,12 @@ points_of (refused_listing r) = []
 
 -- 16: the point exists
 abbrev pub point_exists : List Point → ℕ → Judgement
-point_exists ps p = cond (ltb p (length ps)) Accepted (refused NoSuchPoint)
+point_exists ps p = cond (ltb p (length ps)) accepted (Err NoSuchPoint)
 
 -- what turns the call for claim lines back: a refusal of reading, 1 to 11 or 19, and without one a point that does not exist, 16
 abbrev pub claim_lines_judged : Listing → ℕ → Judgement
 claim_lines_judged (read_as ps) p = point_exists ps p
-claim_lines_judged (refused_listing r) p = refused r
+claim_lines_judged (refused_listing r) p = Err r
 
 -- where the claim lines of a point begin in the listing
 abbrev pub claim_offset : Point → ℕ
@@ -192,20 +192,20 @@ claim_bytes s q = take (claim_length q) (drop (claim_offset q) s)
 
 -- the part, where nothing turns the call back
 abbrev pub part_or : Judgement → List ℕ → List ℕ
-part_or Accepted l = l
-part_or (refused r) l = []
+part_or (Ok u) l = l
+part_or (Err r) l = []
 
 -- the claim lines of point p as a part of the listing, empty on refusal
 unfoldable pub claim_lines : List ℕ → ℕ → List ℕ
 unfolding listing_within
 claim_lines s p = part_or (claim_lines_judged (listing_of s) p) (claim_bytes s (point_at (points_of (listing_of s)) p))
 
--- a judgement with the place of the part, 0 and 0 on refusal
-abbrev pub part_judged : Judgement → Point → ClaimPart
-part_judged Accepted q = record { judgement = Accepted; offset = claim_offset q; length = claim_length q }
-part_judged (refused r) q = record { judgement = refused r; offset = 0; length = 0 }
+-- the place of the part, where nothing turns the call back
+abbrev pub part_judged : Judgement → Point → Result ClaimPart Refusal
+part_judged (Ok u) q = Ok (record { offset = claim_offset q; length = claim_length q })
+part_judged (Err r) q = Err r
 
--- the same part by its offset and its length, with the judgement of the call
-unfoldable pub claim_part : List ℕ → ℕ → ClaimPart
+-- the same part by its offset and its length, or what turns the call back
+unfoldable pub claim_part : List ℕ → ℕ → Result ClaimPart Refusal
 unfolding listing_within
 claim_part s p = part_judged (claim_lines_judged (listing_of s) p) (point_at (points_of (listing_of s)) p)

@@ -1,7 +1,7 @@
 -- Document 01, 'Worked listings': the one line of 40 bytes that the program prints.
 -- It is a line like those of a listing: a word, six fields and the end of the line.
 use Rattle.std.specs.Prelude.{ℕ, cond, List, [], ◌∷◌, replicate, eqb}
-use Rattle.model.specs.Types.{Field, Blank, Number, Refusal, Verdict, Passed, refused_verdict}
+use Rattle.model.specs.Types.{Field, Blank, Number, Refusal, Verdict, Ok, Err}
 use Rattle.model.specs.Limits.{line_bytes}
 use Rattle.model.specs.Text.{space}
 use Rattle.model.specs.Words.{bytes}
@@ -23,5 +23,5 @@ fail_fields r = Number (number_of r) ∷ Blank ∷ Blank ∷ Blank ∷ place_fie
 -- the printed line of an answer
 unfoldable pub printed : Verdict → List ℕ
 unfolding line_set
-printed (Passed n) = line_set (replicate line_bytes space) (bytes "PASS") (pass_fields n)
-printed (refused_verdict r) = line_set (replicate line_bytes space) (bytes "FAIL") (fail_fields r)
+printed (Ok n) = line_set (replicate line_bytes space) (bytes "PASS") (pass_fields n)
+printed (Err r) = line_set (replicate line_bytes space) (bytes "FAIL") (fail_fields r)

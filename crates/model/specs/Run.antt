@@ -1,7 +1,7 @@
 -- Document 01, 'Turned back' and 'The runs of demand 3': a run with its budget, refusals 15 to 17, and what it hands back.
 -- A run repeats 1 to 14 and 19, then tests 15 for all tables, 16 and 17. A refused run hands back what it was handed, with 0 steps.
 use Rattle.std.specs.Prelude.{ℕ, zero, suc, ◌+◌, Bool, ◌&&◌, cond, List, length, leb, ltb}
-use Rattle.model.specs.Types.{State, TableLength, ClaimsNotMet, Judgement, Accepted, refused, Stopped, Paused, refused_run, Outcome}
+use Rattle.model.specs.Types.{State, TableLength, ClaimsNotMet, Judgement, accepted, Err, Stopped, Paused, refused_run, Outcome, Ok}
 use Rattle.model.specs.Limits.{greatest_size, StripeLimits, today}
 use Rattle.model.specs.Lists.{every}
 use Rattle.model.specs.Answers.{◌and_then◌}
@@ -23,11 +23,11 @@ size_fits n = leb n greatest_size
 
 -- 15: no table is too long
 abbrev pub tables_fit : List ℕ → Judgement
-tables_fit sizes = cond (every size_fits sizes) Accepted (refused TableLength)
+tables_fit sizes = cond (every size_fits sizes) accepted (Err TableLength)
 
 -- 17: the state meets the claims of its point
 abbrev pub claims_met : List Point → State → List ℕ → Judgement
-claims_met ps s sizes = cond (meets_claims ps s sizes) Accepted (refused ClaimsNotMet)
+claims_met ps s sizes = cond (meets_claims ps s sizes) accepted (Err ClaimsNotMet)
 
 -- 15 to 17, in order, for a state and tables of these sizes
 abbrev pub state_judged : List Point → State → List ℕ → Judgement
@@ -83,8 +83,8 @@ finished ps p = record {
 
 -- the run, where nothing turns it back
 abbrev pub ran_from : Judgement → List Point → State → Tables → ℕ → Ran
-ran_from Accepted ps s t budget = finished ps (run_for ps budget (config_of s t))
-ran_from (refused r) ps s t budget = record { outcome = record { report = refused_run r; state = s; steps = 0 }; tables = t }
+ran_from (Ok u) ps s t budget = finished ps (run_for ps budget (config_of s t))
+ran_from (Err r) ps s t budget = record { outcome = record { report = refused_run r; state = s; steps = 0 }; tables = t }
 
 -- within these limits of scales and bounds
 module _ (L : StripeLimits) where

@@ -2,7 +2,7 @@
 -- Only what a caller can see is assumed: the listing passes, the first state meets the claims of its point over tables of some sizes,
 -- and each call lends tables of these sizes with any budget. Sixteen registers, and bytes below 256, are facts of the types.
 use Rattle.std.specs.Prelude.{ℕ, ◌<◌, ◌≤◌, ◌≡◌, true, false, List, [], ◌∷◌, length, get_or}
-use Rattle.model.specs.Types.{Table, State, Passed, Report, Stopped, Paused, refused_run}
+use Rattle.model.specs.Types.{Table, State, Ok, Report, Stopped, Paused, refused_run}
 use Rattle.model.specs.Limits.{registers, MAX}
 use Rattle.model.specs.Listing.{Point, listing_of, points_of}
 use Rattle.model.specs.Machine.{Tables, table_of, sizes_of, Config, config_of, state_of, error_state, step_at, at, steps}
@@ -64,6 +64,6 @@ Kept l sizes s (k ∷ ks) = RunsWell (points_of (listing_of l)) sizes s k (ran_o
 -- demand 3
 abbrev pub Safety : Type 0
 Safety =
-    (l : List ℕ) (points : ℕ) → check l ≡ Passed points →
+    (l : List ℕ) (points : ℕ) → check l ≡ Ok points →
     (sizes : List ℕ) (s : State) → length s.registers ≡ registers → meets_claims (points_of (listing_of l)) s sizes ≡ true →
     (calls : List Call) → AllLend sizes calls → Kept l sizes s calls

@@ -5,7 +5,7 @@ use Rattle.std.specs.Prelude.{ℕ, Bool, false, not, ◌&&◌, ◌||◌, cond, L
 use Prim.Native.Char.{code}
 use Prim.Native.String.{String, [] as end, ◌∷◌ as ◌then◌}
 use Rattle.std.proofs.Math.Bool.{true}
-use Rattle.model.specs.Types.{Field, Blank, Number, Negative, Misshapen, Word, STOP, SETC, COPY, ADDW, SUBW, MULW, DIVF, LOAD, STOR, JUMP, BLTU, BEQU, LEAS, MOST, STRP, DIVM, TURN, FoundWord, Unknown, Known, Content, a_register, a_variable, a_target, a_width, a_table, a_scale, an_offset, a_number, a_choice, an_operand, a_claimed, a_bound, Kind, empty, plain, optional, signed}
+use Rattle.model.specs.Types.{Field, Blank, Number, Negative, Misshapen, Word, STOP, SETC, COPY, ADDW, SUBW, MULW, DIVF, LOAD, STOR, JUMP, BLTU, BEQU, LEAS, MOST, STRP, DIVM, TURN, Option, None, Some, Content, a_register, a_variable, a_target, a_width, a_table, a_scale, an_offset, a_number, a_choice, an_operand, a_claimed, a_bound, Kind, empty, plain, optional, signed}
 use Rattle.model.specs.Limits.{registers, tables, variables, MAX, greatest_size, greatest_offset, greatest_points, StripeLimits}
 use Rattle.model.specs.Text.{value_in}
 
@@ -45,10 +45,10 @@ begins l t =
     eqb (get_or l 0 0) (get_or t 0 0) && eqb (get_or l 1 0) (get_or t 1 0) && eqb (get_or l 2 0) (get_or t 2 0) && eqb (get_or l 3 0) (get_or t 3 0)
 
 -- the word of the list that the line begins with
-unfoldable pub word_among : List Word → List ℕ → FoundWord
+unfoldable pub word_among : List Word → List ℕ → Option Word
 unfolding begins
-word_among [] l = Unknown
-word_among (w ∷ ws) l = cond (begins l (text_of w)) (Known w) (word_among ws l)
+word_among [] l = None
+word_among (w ∷ ws) l = cond (begins l (text_of w)) (Some w) (word_among ws l)
 
 -- a row of the table below: what F1 to F6 are due to hold
 abbrev row : Kind → Kind → Kind → Kind → Kind → Kind → List Kind

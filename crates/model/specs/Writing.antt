@@ -2,7 +2,7 @@
 -- 3, 4, 5 and 19 are tested as for a line that is read, with the number as given for place, and 18 after them. A call that is turned back changes no byte.
 -- The two laws at the end tie what the call writes to what the reader takes. Their proofs are those of the crate `writer`.
 use Rattle.std.specs.Prelude.{ℕ, ◌*◌, ◌-◌, ◌<◌, ◌≤◌, ◌≡◌, Bool, true, false, ◌&&◌, cond, List, ◌++◌, ◌⊎◌, length, get_or, take, drop, leb, eqb}
-use Rattle.model.specs.Types.{Field, FoundWord, Unknown, Line, refused_line, claim_line, instruction_line, NoRoom, Judgement, Accepted, refused}
+use Rattle.model.specs.Types.{Field, Option, None, Line, refused_line, claim_line, instruction_line, NoRoom, Judgement, accepted, Err, Ok, Word}
 use Rattle.model.specs.Limits.{line_bytes, greatest_lines, today}
 use Rattle.model.specs.Answers.{◌and_then◌}
 use Rattle.model.specs.Words.{words, word_among}
@@ -10,13 +10,13 @@ use Rattle.model.specs.Lines.{fields_in, judged, read_line, line_set}
 use Rattle.model.specs.Listing.{line_at}
 
 -- the word that some bytes are: none where they are not four
-unfoldable pub word_of : List ℕ → FoundWord
+unfoldable pub word_of : List ℕ → Option Word
 unfolding word_among
-word_of t = cond (eqb (length t) 4) (word_among words t) Unknown
+word_of t = cond (eqb (length t) 4) (word_among words t) None
 
 -- 18: a listing can have a line n, and one of so many bytes does not end before it
 unfoldable pub room_for : ℕ → ℕ → Judgement
-room_for n size = cond (leb 1 n && leb n greatest_lines && leb (n * line_bytes) size) Accepted (refused NoRoom)
+room_for n size = cond (leb 1 n && leb n greatest_lines && leb (n * line_bytes) size) accepted (Err NoRoom)
 
 -- what turns the call back: 3, 4, 5 and 19, then 18
 unfoldable pub line_judged : List ℕ → List Field → ℕ → List ℕ → Judgement
@@ -30,8 +30,8 @@ with_line s k t fs = take (k * line_bytes) s ++ (line_set (line_at s k) t fs ++ 
 
 -- the first listing where nothing turns the call back, else the second
 unfoldable pub listing_if : Judgement → List ℕ → List ℕ → List ℕ
-listing_if Accepted s₁ s₀ = s₁
-listing_if (refused r) s₁ s₀ = s₀
+listing_if (Ok u) s₁ s₀ = s₁
+listing_if (Err r) s₁ s₀ = s₀
 
 -- the listing after the call
 unfoldable pub listing_set : List ℕ → List Field → ℕ → List ℕ → List ℕ
@@ -62,11 +62,11 @@ pub record ReadBack (t : List ℕ) (fs : List Field) (n : ℕ) (s : List ℕ) : 
 
 -- the first law: what the call writes is read back
 abbrev pub WrittenIsRead : Type 0
-WrittenIsRead = (t : List ℕ) (fs : List Field) (n : ℕ) (s : List ℕ) → length fs ≡ 6 → line_judged t fs n s ≡ Accepted → ReadBack t fs n s
+WrittenIsRead = (t : List ℕ) (fs : List Field) (n : ℕ) (s : List ℕ) → length fs ≡ 6 → line_judged t fs n s ≡ accepted → ReadBack t fs n s
 
 -- the second law: a line that the reader takes is, whatever stood in its place, the line that the call writes for its word and fields
 abbrev pub ReadIsWritten : Type 0
 ReadIsWritten =
     (place : ℕ) (l : List ℕ) → length l ≡ line_bytes → is_taken (read_line today place l) ≡ true →
-    (n : ℕ) (s : List ℕ) → room_for n (length s) ≡ Accepted →
-    (line_judged (take 4 l) (fields_in l) n s ≡ Accepted) × (line_after (take 4 l) (fields_in l) n s ≡ l)
+    (n : ℕ) (s : List ℕ) → room_for n (length s) ≡ accepted →
+    (line_judged (take 4 l) (fields_in l) n s ≡ accepted) × (line_after (take 4 l) (fields_in l) n s ≡ l)

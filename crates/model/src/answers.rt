@@ -1,7 +1,4 @@
 // The answers: why something is turned back, what the checker says, where claim lines stand, how a run ended.
-ghost use Rattle.std.specs.Prelude.{◌≡◌};
-ghost use Rattle.model.specs.Answers.{is_refused};
-
 use crate::machine::State;
 
 // Why a listing, a state or a call is turned back: a case for each number from 1 to 20, in their order, with the lines that it names.
@@ -29,41 +26,18 @@ pub enum Refusal {
     UncoveredEdge { line: usize },
 }
 
-// Whether something is turned back.
-#[derive(Clone, Copy)]
-pub enum Judgement {
-    Accepted,
-    Refused(Refusal),
-}
+// What becomes of something that is tested: it is accepted, or a refusal turns it back.
+pub type Judgement = Result<(), Refusal>;
 
-// Whether a judgement turns back.
-pub fn is_refused(j: Judgement) -> bool
-    ensures { result ≡ is_refused j }
-{
-    match j {
-        Judgement::Accepted => false,
-        Judgement::Refused(_) => true,
-    }
-}
+// The checker's answer: the number of points of a listing that passes, or the refusal.
+pub type Verdict = Result<usize, Refusal>;
 
-// The checker's answer: the number of points of a passed listing, or the refusal.
-#[derive(Clone, Copy)]
-pub enum Verdict {
-    Passed { points: usize },
-    Refused(Refusal),
-}
+// The answer for the steps that a listing needs: a bound of a listing that passes, or the refusal.
+pub type StepBound = Result<u64, Refusal>;
 
-// The answer for the steps that a listing needs: a bound of a passed listing, or the refusal.
-#[derive(Clone, Copy)]
-pub enum StepBound {
-    Bounded { steps: u64 },
-    Refused(Refusal),
-}
-
-// The answer for the claim lines of a point: whether the call is turned back, where in the listing the part that holds them begins, and how many bytes it has.
+// The part of a listing that holds the claim lines of a point: where it begins, and how many bytes it has.
 #[derive(Clone, Copy)]
 pub struct ClaimPart {
-    pub judgement: Judgement,
     pub offset: usize,
     pub length: usize,
 }

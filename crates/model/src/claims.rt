@@ -77,13 +77,6 @@ pub enum Claim {
     Turn { register: usize },
 }
 
-// The register of a TURN line, or none.
-#[derive(Clone, Copy)]
-pub enum Turning {
-    Absent,
-    Register(usize),
-}
-
 // A line of a listing as it is read.
 #[derive(Clone, Copy)]
 pub enum Line {

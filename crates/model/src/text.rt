@@ -41,13 +41,6 @@ pub enum Word {
     Turn,
 }
 
-// The word of a line, where its four bytes are one.
-#[derive(Clone, Copy)]
-pub enum FoundWord {
-    Unknown,
-    Known(Word),
-}
-
 // What the number of a field stands for.
 #[derive(Clone, Copy)]
 pub enum Content {

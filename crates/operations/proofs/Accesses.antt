@@ -1,68 +1,54 @@
--- Loads and stores of w bytes, once for every w: what their loops keep. Assumes nothing.
-use Rattle.std.proofs.Common.{◌≡◌, ℕ, suc, ◌+◌, ◌-◌, ◌*◌, ◌/◌, ◌%◌, ◌^◌, ◌<◌, ◌≤◌, List, length, get_or, set, refl, lt_of_lt_of_le, arith, lit≤, length-set}
-use native.Mathlib.Nat.{pow-le-pow_right}
+-- Loads and stores of w bytes, once for every w up to 4. Assumes nothing.
+use Rattle.std.proofs.Common.{◌≡◌, ℕ, zero, suc, ◌+◌, ◌-◌, ◌≤◌, ◌<◌, List, [], ◌∷◌, ◌++◌, length, get_or, take, drop, sym, refl, ap, ◌∙◌, add-one, arith, drop-cons, length-take-le, append_assoc}
+use Rattle.std.proofs.lemmas.List.{drop-drop}
+use Rattle.std.proofs.Math.Nat.{div-div-eq-div-mul}
+use Rattle.std.proofs.lemmas.List.Edits.{sets-eq}
+use Rattle.std.proofs.Math.Seq.{sets}
+use Rattle.std.specs.Int.{w32, from_le_bytes, to_le_bytes}
 use Rattle.model.specs.Machine.{read_bytes, write_bytes}
-use Rattle.model.proofs.Values.{read_below}
 
-module _ (s : List ℕ) (at w : ℕ) where
-  -- the bytes from the k-th on are read
-  pub record Loading (x k : ℕ) : Type 0 where
-    pub within : k ≤ w
-    pub got : x ≡ read_bytes (w - k) s (at + k)
+-- w bytes from an address on
+abbrev bytes_from : ℕ → List ℕ → ℕ → List ℕ
+bytes_from zero s at = []
+bytes_from (suc w) s at = get_or s at 0 ∷ bytes_from w s (at + 1)
 
-  pub load-none : Loading 0 w
-  unfolding read_bytes
-  load-none = record { within = omega arith; got = rw none }
-    where
-      none : w - w ≡ 0
-      none = omega arith
+part-bytes : (w : ℕ) (s : List ℕ) (at : ℕ) → at + w ≤ length s → take w (drop at s) ≡ bytes_from w s at
+part-bytes zero s at h = refl
+part-bytes (suc w) s at h =
+    let here : at < length s = omega arith in
+    rw (drop-cons s at 0, ← add-one at) (ap (λ (l : List ℕ). get_or s at 0 ∷ l) (part-bytes w s (at + 1) (omega arith)))
 
-  pub load-more : {x k : ℕ} → Loading x k → 0 < k → (y : ℕ) → y ≡ get_or s (at + (k - 1)) 0 → Loading (y + 256 * x) (k - 1)
-  unfolding read_bytes
-  load-more {x} {k} h q y e =
-      let count : w - (k - 1) ≡ suc (w - k) = omega (arith, h.within) in
-      let place : at + (k - 1) + 1 ≡ at + k = omega arith in
-      record { within = omega (arith, h.within); got = rw (count, place, e, h.got) }
+-- w bytes as a number of four, with zeros behind them
+number-bytes : (w : ℕ) (s : List ℕ) (at : ℕ) → w ≤ 4 → from_le_bytes w32 (bytes_from w s at ++ drop w (0 ∷ 0 ∷ 0 ∷ 0 ∷ [])) ≡ read_bytes w s at
+unfolding read_bytes
+number-bytes zero s at h = refl
+number-bytes (suc zero) s at h = omega arith
+number-bytes (suc (suc zero)) s at h = omega arith
+number-bytes (suc (suc (suc zero))) s at h = omega arith
+number-bytes (suc (suc (suc (suc zero)))) s at h = omega arith
+number-bytes (suc (suc (suc (suc (suc w))))) s at h = absurd (omega arith)
 
-  pub load-all : {x k : ℕ} → Loading x k → k ≤ 0 → x ≡ read_bytes w s at
-  load-all {x} {k} h q =
-      let count : w - k ≡ w = omega arith in
-      let place : at + k ≡ at = omega arith in
-      rw (count, place) at h.got
+pub loaded : (w : ℕ) (s ys : List ℕ) (at : ℕ) → w ≤ 4 → at + w ≤ length s → ys ≡ take (at + w - at) (drop at s)
+    → from_le_bytes w32 (ys ++ drop w (0 ∷ 0 ∷ 0 ∷ 0 ∷ [])) ≡ read_bytes w s at
+loaded w s ys at h room e =
+    let count : at + w - at ≡ w = omega arith in
+    rw (e, count, part-bytes w s at room) (number-bytes w s at h)
 
-  -- a number of at most three bytes has room for one more
-  pub load-room : {x k : ℕ} → ((i : ℕ) → get_or s i 0 < 256) → Loading x k → 0 < k → w ≤ 4 → x < 2 ^ 24
-  load-room {x} {k} bytes h q l =
-      rw h.got (lt_of_lt_of_le (read_below s bytes (w - k) (at + k)) (pow-le-pow_right (lit≤ tt) few))
-    where
-      few : w - k ≤ 3
-      few = omega arith
+-- the low w bytes of a number, set one after another
+set-bytes : (w : ℕ) (s : List ℕ) (at x : ℕ) → w ≤ 4 → sets s at (take w (to_le_bytes w32 x)) ≡ write_bytes w s at x
+unfolding write_bytes
+set-bytes zero s at x h = refl
+set-bytes (suc zero) s at x h = refl
+set-bytes (suc (suc zero)) s at x h = simp (add-one, div-div-eq-div-mul)
+set-bytes (suc (suc (suc zero))) s at x h = simp (add-one, div-div-eq-div-mul)
+set-bytes (suc (suc (suc (suc zero)))) s at x h = simp (add-one, div-div-eq-div-mul)
+set-bytes (suc (suc (suc (suc (suc w))))) s at x h = absurd (omega arith)
 
-module _ (s₀ : List ℕ) (at w x : ℕ) where
-  -- k bytes are stored, and left holds the others
-  pub record Storing (s : List ℕ) (left k : ℕ) : Type 0 where
-    pub within : k ≤ w
-    pub long : length s ≡ length s₀
-    pub rest : write_bytes (w - k) s (at + k) left ≡ write_bytes w s₀ at x
-
-  pub store-none : Storing s₀ x 0
-  store-none = record { within = omega arith; long = refl; rest = rw (count, place) }
-    where
-      count : w - 0 ≡ w
-      count = omega arith
-
-      place : at + 0 ≡ at
-      place = omega arith
-
-  pub store-more : {s : List ℕ} {left k : ℕ} → Storing s left k → k < w → Storing (set s (at + k) (left % 256)) (left / 256) (k + 1)
-  unfolding write_bytes
-  store-more {s} {left} {k} h q =
-      let count : w - k ≡ suc (w - (k + 1)) = omega arith in
-      let place : at + (k + 1) ≡ at + k + 1 = omega arith in
-      record { within = omega arith; long = simp length-set h.long; rest = rw place (rw count at h.rest) }
-
-  pub store-all : {s : List ℕ} {left k : ℕ} → Storing s left k → w ≤ k → s ≡ write_bytes w s₀ at x
-  unfolding write_bytes
-  store-all {s} {left} {k} h q =
-      let count : w - k ≡ 0 = omega arith in
-      rw count at h.rest
+pub stored : (w : ℕ) (s ys : List ℕ) (at x : ℕ) → w ≤ 4 → at + w ≤ length s → ys ≡ take w (to_le_bytes w32 x)
+    → take at s ++ (ys ++ drop (at + w - at) (drop at s)) ≡ write_bytes w s at x
+stored w s ys at x h room e =
+    let bytes = take w (to_le_bytes w32 x) in
+    let long : length bytes ≡ w = length-take-le w (to_le_bytes w32 x) h in
+    let count : at + w - at ≡ length bytes = omega arith in
+    let within : at + length bytes ≤ length s = omega arith in
+    rw (e, count, drop-drop, ← append_assoc) (sym (sets-eq bytes s at within) ∙ set-bytes w s at x h)

@@ -1,53 +1,37 @@
 // Numbers in a table: bytes, least significant first.
-ghost use Rattle.std.specs.Prelude.{◌≡◌, ◌+◌, ◌<◌, ◌≤◌, length};
+ghost use Rattle.std.specs.Prelude.{◌≡◌, ◌+◌, ◌≤◌, length};
 ghost use Rattle.model.specs.Machine.{bytes_of, read_bytes, write_bytes};
 
 use model::machine::Width;
 
-// A byte as a number.
-fn wide(x: u8) -> u32
-    ensures { (result ≡ x) × (result < 256) }
+// The number that W bytes from an address on hold.
+fn load_bytes<const W: usize>(s: &[u8], at: usize) -> u32
+    requires { (W ≤ 4) × (at + W ≤ length s.now) }
+    ensures { result ≡ read_bytes W s.now at }
 {
-    x as u32
+    let mut bytes = [0; 4];
+    bytes[..W].copy_from_slice(&s[at..at + W]);
+    u32::from_le_bytes(bytes)
 }
 
-// The number that w bytes from an address on hold.
-fn load_bytes(s: &[u8], at: usize, w: usize) -> u32
-    requires { (w ≤ 4) × (at + w ≤ length s.now) }
-    ensures { result ≡ read_bytes w s.now at }
+// The low W bytes of a number stored from an address on.
+fn store_bytes<const W: usize>(s: &mut [u8], at: usize, x: u32)
+    requires { (W ≤ 4) × (at + W ≤ length s.old) }
+    ensures { s.new ≡ write_bytes W s.old at x }
 {
-    let mut x: u32 = 0;
-    let mut k = w;
-    while 0 < k {
-        k = k - 1;
-        x = wide(s[at + k]) + 256 * x;
-    }
-    x
+    let bytes = x.to_le_bytes();
+    s[at..at + W].copy_from_slice(&bytes[..W]);
 }
 
-// The low w bytes of a number stored from an address on.
-fn store_bytes(s: &mut [u8], at: usize, w: usize, x: u32)
-    requires { at + w ≤ length s.old }
-    ensures { s.new ≡ write_bytes w s.old at x }
-{
-    let mut left = x;
-    let mut k: usize = 0;
-    while k < w {
-        s[at + k] = (left % 256) as u8;
-        left = left / 256;
-        k = k + 1;
-    }
-}
-
-// The number that an access of this width finds. The width is a number in each arm, so that each loop is unrolled.
+// The number that an access of this width finds.
 pub fn load(s: &[u8], at: usize, w: Width) -> u32
     requires { at + bytes_of w ≤ length s.now }
     ensures { result ≡ read_bytes (bytes_of w) s.now at }
 {
     match w {
-        Width::One => load_bytes(s, at, 1),
-        Width::Two => load_bytes(s, at, 2),
-        Width::Four => load_bytes(s, at, 4),
+        Width::One => load_bytes::<1>(s, at),
+        Width::Two => load_bytes::<2>(s, at),
+        Width::Four => load_bytes::<4>(s, at),
     }
 }
 
@@ -57,8 +41,8 @@ pub fn store(s: &mut [u8], at: usize, w: Width, x: u32)
     ensures { s.new ≡ write_bytes (bytes_of w) s.old at x }
 {
     match w {
-        Width::One => store_bytes(s, at, 1, x),
-        Width::Two => store_bytes(s, at, 2, x),
-        Width::Four => store_bytes(s, at, 4, x),
+        Width::One => store_bytes::<1>(s, at, x),
+        Width::Two => store_bytes::<2>(s, at, x),
+        Width::Four => store_bytes::<4>(s, at, x),
     }
 }

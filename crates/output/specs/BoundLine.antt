@@ -1,8 +1,6 @@
 -- The line that the program prints for a bound: STEP with the bound in F6, or the checker's FAIL line.
-use Rattle.std.specs.Prelude.{ℕ, List, replicate}
-use Rattle.model.specs.declared.answers.Verdict.TheVariants.{Refused as refused_verdict}
-use Rattle.model.specs.declared.answers.StepBound.{StepBound}
-use Rattle.model.specs.declared.answers.StepBound.TheVariants.{Bounded, Refused as refused_bound}
+use Rattle.std.specs.Prelude.{ℕ, List, replicate, Err, Ok}
+use Rattle.model.specs.Types.{StepBound}
 use Rattle.model.specs.Limits.{line_bytes}
 use Rattle.model.specs.Text.{space}
 use Rattle.model.specs.Words.{bytes}
@@ -12,5 +10,5 @@ use Rattle.model.specs.Output.{pass_fields, printed}
 -- the line of a bound, or of what turns the call back
 unfoldable pub bound_line : StepBound → List ℕ
 unfolding line_set printed
-bound_line (Bounded n) = line_set (replicate line_bytes space) (bytes "STEP") (pass_fields n)
-bound_line (refused_bound r) = printed (refused_verdict r)
+bound_line (Ok n) = line_set (replicate line_bytes space) (bytes "STEP") (pass_fields n)
+bound_line (Err r) = printed (Err r)

@@ -1,9 +1,8 @@
 -- The line that the program prints for a run: STOP or PAUS with the point in F1 and the steps in F6, or the checker's FAIL line.
-use Rattle.std.specs.Prelude.{ℕ, List, [], ◌∷◌, replicate}
+use Rattle.std.specs.Prelude.{ℕ, List, [], ◌∷◌, replicate, Err}
 use Rattle.model.specs.declared.text.Field.{Field}
 use Rattle.model.specs.declared.text.Field.TheVariants.{Blank, Number}
 use Rattle.model.specs.declared.text.Word.TheVariants.{Stop}
-use Rattle.model.specs.declared.answers.Verdict.TheVariants.{Refused as refused_verdict}
 use Rattle.model.specs.declared.answers.Report.{Report}
 use Rattle.model.specs.declared.answers.Report.TheVariants.{Stopped, Paused, Refused as refused_run}
 use Rattle.model.specs.Limits.{line_bytes}
@@ -26,4 +25,4 @@ unfoldable pub answer_line : Report → ℕ → ℕ → List ℕ
 unfolding run_line printed
 answer_line Stopped point steps = run_line (text_of Stop) point steps
 answer_line Paused point steps = run_line (bytes "PAUS") point steps
-answer_line (refused_run r) point steps = printed (refused_verdict r)
+answer_line (refused_run r) point steps = printed (Err r)

@@ -2,21 +2,16 @@
 ghost use Rattle.std.specs.Prelude.{◌≡◌};
 ghost use Rattle.output.specs.BoundLine.{bound_line};
 
-use crate::printed::{pass_fields, printed};
-use model::answers::{StepBound, Verdict};
-use written_line::set_line;
+use crate::printed::{line_of, pass_fields, printed};
+use model::answers::StepBound;
 
 // The line of a bound, or of what turns the call back.
+#[tactic(auto, unfolding(crate::specs::BoundLine::bound_line))]
 pub fn bound_line(b: StepBound) -> [u8; 40]
     ensures { result ≡ bound_line b }
 {
     match b {
-        StepBound::Bounded { steps } => {
-            let mut line = [32u8; 40];
-            let t = *b"STEP";
-            set_line(&mut line, &t, pass_fields(steps));
-            line
-        }
-        StepBound::Refused(r) => printed(Verdict::Refused(r)),
+        Ok(steps) => line_of(b"STEP", pass_fields(steps)),
+        Err(r) => printed(Err(r)),
     }
 }

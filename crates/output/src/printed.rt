@@ -1,20 +1,25 @@
 // The line that the program prints for the checker's answer.
-ghost use Rattle.std.specs.Prelude.{◌≡◌};
+ghost use Rattle.std.specs.Prelude.{◌≡◌, replicate};
+ghost use Rattle.model.specs.Limits.{line_bytes};
+ghost use Rattle.model.specs.Text.{space};
+ghost use Rattle.model.specs.Lines.{line_set};
 ghost use Rattle.model.specs.Output;
 ghost use Rattle.model.specs.Output.{place_field, pass_fields, fail_fields};
 
 use answer_numbers::refusal::numbers;
 use model::answers::{Refusal, Verdict};
 use model::text::Field;
+use written_line::set_line;
 
 // A second place, blank where there is none.
 fn place_field(n: u64) -> Field
     ensures { result ≡ place_field n }
 {
     if n == 0 {
-        return Field::Blank;
+        Field::Blank
+    } else {
+        Field::Number(n)
     }
-    Field::Number(n)
 }
 
 // The fields of a line with a number in F6 alone, as a PASS line.
@@ -43,21 +48,22 @@ fn fail_fields(r: Refusal) -> [Field; 6]
     [n, Field::Blank, Field::Blank, Field::Blank, second, first]
 }
 
+// A line of a word and six fields.
+pub(crate) fn line_of(word: &[u8; 4], fields: [Field; 6]) -> [u8; 40]
+    ensures { result ≡ line_set (replicate line_bytes space) word.now fields }
+{
+    let mut line = [b' '; 40];
+    set_line(&mut line, word, fields);
+    line
+}
+
 // The printed line of an answer.
+#[tactic(auto, unfolding(model::specs::Output::printed))]
 pub fn printed(v: Verdict) -> [u8; 40]
     ensures { result ≡ Output.printed v }
 {
-    let mut line = [32u8; 40];
     match v {
-        Verdict::Passed { points } => {
-            let t = *b"PASS";
-            written_line::set_line(&mut line, &t, pass_fields(points as u64));
-            line
-        }
-        Verdict::Refused(r) => {
-            let t = *b"FAIL";
-            written_line::set_line(&mut line, &t, fail_fields(r));
-            line
-        }
+        Ok(points) => line_of(b"PASS", pass_fields(points as u64)),
+        Err(r) => line_of(b"FAIL", fail_fields(r)),
     }
 }

@@ -1,4 +1,4 @@
-// The two ranges that an instruction reads, and the ends of a range moved: at least, at most or below a number, away from one, or to what two ranges share.
+// The ends of a range moved: at least, at most or below a number, away from one, or to what two ranges share.
 #![tactic(auto)]
 
 ghost use Rattle.std.specs.Prelude.{◌≡◌, cond, ◌+◌, ◌-◌, ◌≤◌, min, max, eqb};
@@ -8,27 +8,6 @@ ghost use Rattle.model.specs.Transfer.{at_least, at_most};
 
 use model::claims::Range;
 
-// The smaller of two numbers.
-fn smaller(a: u64, b: u64) -> u64
-    ensures { result ≡ min a b }
-{
-    if a < b { a } else { b }
-}
-
-// The larger of two numbers.
-pub fn larger(a: u64, b: u64) -> u64
-    ensures { result ≡ max a b }
-{
-    if a < b { b } else { a }
-}
-
-// The range of the variable i and that of the operand o of an instruction.
-#[derive(Clone, Copy)]
-pub struct Pair {
-    pub r: Range,
-    pub q: Range,
-}
-
 // The high end at most one less than e; nothing where that falls below 0.
 pub fn below(e: u64, r: Range) -> Range
     ensures { result ≡ Model.below e r }
@@ -36,7 +15,7 @@ pub fn below(e: u64, r: Range) -> Range
     if e == 0 {
         return Range::nothing();
     }
-    let hi = smaller(r.hi, e - 1);
+    let hi = r.hi.min(e - 1);
     Range::between(r.lo, hi)
 }
 
@@ -44,7 +23,7 @@ pub fn below(e: u64, r: Range) -> Range
 pub fn at_least(e: u64, r: Range) -> Range
     ensures { result ≡ at_least e r }
 {
-    let lo = larger(r.lo, e);
+    let lo = r.lo.max(e);
     Range::between(lo, r.hi)
 }
 
@@ -52,7 +31,7 @@ pub fn at_least(e: u64, r: Range) -> Range
 pub fn at_most(e: u64, r: Range) -> Range
     ensures { result ≡ at_most e r }
 {
-    let hi = smaller(r.hi, e);
+    let hi = r.hi.min(e);
     Range::between(r.lo, hi)
 }
 
@@ -60,8 +39,8 @@ pub fn at_most(e: u64, r: Range) -> Range
 pub fn overlap(r: Range, q: Range) -> Range
     ensures { result ≡ Model.overlap r q }
 {
-    let lo = larger(r.lo, q.lo);
-    let hi = smaller(r.hi, q.hi);
+    let lo = r.lo.max(q.lo);
+    let hi = r.hi.min(q.hi);
     Range::between(lo, hi)
 }
 
@@ -77,11 +56,7 @@ fn low_without(c: u64, lo: u64) -> u64
 fn high_without(c: u64, hi: u64) -> u64
     ensures { result ≡ cond (eqb hi c) (c - 1) hi }
 {
-    if hi == c {
-        if c == 0 { 0 } else { c - 1 }
-    } else {
-        hi
-    }
+    if hi == c { c.saturating_sub(1) } else { hi }
 }
 
 // An end equal to c moved inward by 1.

@@ -1,21 +1,18 @@
 -- Claims gathered one row at a time. Assumes nothing.
 use mathlib.Core.Path.{◌≡◌, refl, ap, ◌∙◌}
 use mathlib.Core.List.{List, [], ◌∷◌, ◌++◌}
-use Prim.Native.Nat.{ℕ, zero, suc, ◌+◌, ◌*◌, ◌≤◌, ◌<◌}
-use native.Mathlib.Nat.{not-suc-le-zero}
+use Prim.Native.Nat.{ℕ, zero, suc, ◌+◌, ◌≤◌, ◌<◌}
 use native.Mathlib.Omega.{arith}
 use native.Mathlib.Decide.{ℕ_discrete}
-use lib.ListN.{replicate}
+use Rattle.std.proofs.Common.{sym, length, length-append, add-zero, zero-add}
 use Rattle.model.specs.declared.claims.Claim.{Claim}
-use Rattle.model.specs.Limits.{greatest_bound}
+use Rattle.model.specs.declared.claims.Claim.TheVariants.{Leas, Most, Strp, Turn}
 use Rattle.model.specs.Facts.{Facts, unclaimed, with_claim, with_claims, facts_of}
 use Rattle.model.specs.Listing.{stripes_among}
-use Rattle.facts.specs.Sizes.{edge_stripes}
-use Rattle.facts.proofs.WrittenArrays.{zeros}
+use Rattle.line_rows.specs.declared.rows.Row.{Row}
 use Rattle.line_rows.specs.Rows.{row_at}
 use Rattle.decoded.specs.Decoded.{claim_from, claims_from}
 use Rattle.decoded.proofs.Claims.{claims-none, claims-next}
-use Rattle.facts.specs.Known.{ranges_of, stripes_of, known, Standing}
 use Rattle.scan.proofs.LineOrder.{stripes-cons}
 
 stripes-append : (xs ys : List Claim) → stripes_among (xs ++ ys) ≡ stripes_among xs + stripes_among ys
@@ -30,15 +27,25 @@ facts-none : facts_of [] ≡ unclaimed
 unfolding facts_of
 facts-none = refl
 
--- no stripe stands among zeros
-pub none-standing : Standing (replicate (edge_stripes * 6) 0) 0
-none-standing = record { few = omega arith; parts = zeros (edge_stripes * 6) greatest_bound; narrow = λ i h. absurd (not-suc-le-zero h) }
+stripes-added : (f : Facts) (c : Claim) → length (with_claim f c).stripes ≡ length f.stripes + stripes_among (c ∷ [])
+stripes-added f (Leas v n) = sym (add-zero (length f.stripes))
+stripes-added f (Most v n) = sym (add-zero (length f.stripes))
+stripes-added f (Strp s) = length-append f.stripes (s ∷ [])
+stripes-added f (Turn r) = sym (add-zero (length f.stripes))
 
-module _ (rows : List ℕ) (from : ℕ) where
-  -- arrays that claim nothing know what no claim states
-  pub facts-start : (low high stripes : List ℕ) → ranges_of low high ≡ unclaimed.ranges → known low high stripes 0 ≡ facts_of (claims_from rows from 0)
-  unfolding stripes_of
-  facts-start low high stripes e = rw (claims-none rows from, facts-none, e) refl
+stripes-gathered : (f : Facts) (cs : List Claim) → length (with_claims f cs).stripes ≡ length f.stripes + stripes_among cs
+stripes-gathered f [] = sym (add-zero (length f.stripes))
+stripes-gathered f (c ∷ cs) = omega (arith, stripes-gathered (with_claim f c) cs, stripes-added f c, stripes-cons c cs, stripes-cons c [])
+
+-- as many stripes as are claimed
+pub stripes-claimed : (cs : List Claim) → length (facts_of cs).stripes ≡ stripes_among cs
+unfolding facts_of
+stripes-claimed cs = stripes-gathered unclaimed cs ∙ zero-add (stripes_among cs)
+
+module _ (rows : List Row) (from : ℕ) where
+  -- what no claim states
+  pub facts-start : unclaimed ≡ facts_of (claims_from rows from 0)
+  facts-start = rw (claims-none rows from, facts-none) refl
 
   -- the claim of one row more
   pub facts-next : (n : ℕ) → facts_of (claims_from rows from (suc n)) ≡ with_claim (facts_of (claims_from rows from n)) (claim_from (row_at rows (from + n)))

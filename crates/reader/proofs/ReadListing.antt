@@ -11,8 +11,8 @@ use borrow.Author.Tests.{eqb-true, leb-true, ltb-true}
 use Rattle.model.specs.declared.claims.Claim.{Claim}
 use Rattle.model.specs.declared.answers.Refusal.{Refusal}
 use Rattle.model.specs.declared.answers.Refusal.TheVariants.{ListingLength, NoSuchTarget}
-use Rattle.model.specs.declared.answers.Judgement.{Judgement}
-use Rattle.model.specs.declared.answers.Judgement.TheVariants.{Accepted, Refused as refused}
+use Rattle.model.specs.Types.{Judgement, accepted}
+use Rattle.std.specs.Prelude.{Ok, Err}
 use Rattle.model.specs.Limits.{line_bytes, greatest_listing, greatest_points, greatest_lines, today}
 use Rattle.model.specs.Answers.{◌and_then◌}
 use Rattle.model.specs.Instructions.{targets, goes_on}
@@ -21,23 +21,22 @@ use Rattle.model.proofs.Tests.{and_left, and_right}
 use Rattle.model.proofs.Steps.{targets-at}
 use Rattle.model.proofs.Reading.{both-accepted, test-passed, WellFormed, well-formed}
 use Rattle.scan.specs.declared.Scan.{Scan}
-use Rattle.scan.specs.declared.Progress.TheVariants.{Going, Turned}
-use Rattle.reader.specs.declared.listing.Listing.{Listing}
-use Rattle.rows_and_places.specs.Sizes.{place_numbers}
 use Rattle.scan.specs.Scan.{scan_of, progress_of}
+use Rattle.line_rows.specs.declared.rows.Row.{Row}
+use Rattle.rows_and_places.specs.declared.places.Place.{Place}
 use Rattle.rows_and_places.specs.Points.{point_in, points_in, Holds}
 use Rattle.rows_and_places.specs.Read.{Scanned, ScannedSo, AllRead}
 use Rattle.reader.specs.Listing.{Stands}
 use Rattle.rows_and_places.proofs.PlacedPoints.{points-are}
 
 -- so many points and claims, where nothing turned the lines back
-pub all_read : (rows at : List ℕ) (lines : ℕ) (x : Reading) (q : Scan) → ScannedSo rows at lines x → progress_of x ≡ Going q → 1 ≤ lines → length at ≡ place_numbers → AllRead rows at q
-all_read rows at lines (refused_reading r) q h e one long = let z : ◌≡◌ {A = ℕ} 0 1 = cc in absurd (omega arith)
-all_read rows at lines (going ps cs) q h e one long =
+pub all_read : (rows : List Row) (at : List Place) (lines : ℕ) (x : Reading) (q : Scan) → ScannedSo rows at lines x → progress_of x ≡ Ok q → 1 ≤ lines → AllRead rows at q
+all_read rows at lines (refused_reading r) q h e one = let z : ◌≡◌ {A = ℕ} 0 1 = cc in absurd (omega arith)
+all_read rows at lines (going ps cs) q h e one =
     let is : scan_of ps cs ≡ q = cc in
-    subst (AllRead rows at) is (record { places = long; some = h.some one; each = λ p b f. (h.each p b f).placed })
+    subst (AllRead rows at) is (record { some = h.some one; each = λ p b f. (h.each p b f).placed })
 
-few-points : (lines : ℕ) (ps : List Point) (cs : List Claim) → whole_judged lines ps cs ≡ Accepted → length ps ≤ greatest_points
+few-points : (lines : ℕ) (ps : List Point) (cs : List Claim) → whole_judged lines ps cs ≡ accepted → length ps ≤ greatest_points
 unfolding whole_judged
 few-points lines ps cs e =
     let (e10, _) = both-accepted (ends_with_instruction lines cs and_then few_points ps and_then all_targets_exist (length ps) ps and_then ends_in_place lines ps) (starts_non_empty ps) e in
@@ -47,7 +46,7 @@ few-points lines ps cs e =
     leb-true (length ps) greatest_points (test-passed _ _ few)
 
 -- the points of a listing that is accepted are held
-module _ (rows at : List ℕ) (lines : ℕ) (ps : List Point) (cs : List Claim) (h : Scanned rows at lines ps cs) (few : length ps ≤ greatest_points) (formed : WellFormed ps) where
+module _ (rows : List Row) (at : List Place) (lines : ℕ) (ps : List Point) (cs : List Claim) (h : Scanned rows at lines ps cs) (few : length ps ≤ greatest_points) (formed : WellFormed ps) where
   same : (p : ℕ) → p < length ps → point_in rows at p ≡ point_at ps p
   same p b = (h.each p b (omega arith)).is
 
@@ -77,35 +76,41 @@ module _ (rows at : List ℕ) (lines : ℕ) (ps : List Point) (cs : List Claim) 
   points-same : points_in rows at (length ps) ≡ ps
   points-same = points-are rows at ps same
 
--- the whole listing, whose lines were all read
-module _ (s : List ℕ) (lines : ℕ) (good : listing_of s ≡ listing_from lines (read_to today s lines)) (l : Listing) (rows at : List ℕ) where
-  pub stands-turned : (r : Refusal) → progress_of (read_to today s lines) ≡ Turned r → l.judgement ≡ refused r → Stands (listing_of s) l rows at
-  stands-turned r e j = rw good (go (read_to today s lines) e)
+-- the listing, whose first lines were turned back, or whose lines were all read and then judged as a whole
+module _ (s : List ℕ) (lines : ℕ) (good : listing_of s ≡ listing_from lines (read_to today s lines)) (rows : List Row) (at : List Place) where
+  pub stands-turned : (r : Refusal) → progress_of (read_to today s lines) ≡ Err r → Stands (listing_of s) (Err r) rows at
+  stands-turned r e = rw good (go (read_to today s lines) e)
     where
-      go : (x : Reading) → progress_of x ≡ Turned r → Stands (listing_from lines x) l rows at
-      go (refused_reading x) p = let same : r ≡ x = cc in j ∙ ap refused same
+      go : (x : Reading) → progress_of x ≡ Err r → Stands (listing_from lines x) (Err r) rows at
+      go (refused_reading x) p = cc
       go (going ps cs) p = let z : ◌≡◌ {A = ℕ} 0 1 = cc in absurd (omega arith)
 
-  pub stands-going : (q : Scan) → ScannedSo rows at lines (read_to today s lines) → progress_of (read_to today s lines) ≡ Going q
-      → ((ps : List Point) (cs : List Claim) → Scanned rows at lines ps cs → q ≡ scan_of ps cs → l.judgement ≡ whole_judged lines ps cs) → l.count ≡ q.points → Stands (listing_of s) l rows at
-  stands-going q h e j n = go (read_to today s lines) refl h e
-    where
-      go : (x : Reading) → read_to today s lines ≡ x → ScannedSo rows at lines x → progress_of x ≡ Going q → Stands (listing_of s) l rows at
-      go (refused_reading x) r h p = let z : ◌≡◌ {A = ℕ} 0 1 = cc in absurd (omega arith)
-      go (going ps cs) r h p =
-          let is : q ≡ scan_of ps cs = cc in
-          let count : l.count ≡ length ps = n ∙ ap (λ (x : Scan). x.points) is in
-          whole (whole_judged lines ps cs) refl (j ps cs h is) count
-        where
-          read : (x : Judgement) → whole_judged lines ps cs ≡ x → listing_of s ≡ listing_or x ps
-          read x w = good ∙ ap (listing_from lines) r ∙ ap (λ (y : Judgement). listing_or y ps) w
+  module _ (q : Scan) (h : ScannedSo rows at lines (read_to today s lines)) (e : progress_of (read_to today s lines) ≡ Ok q) (j : Judgement)
+      (judged : (ps : List Point) (cs : List Claim) → Scanned rows at lines ps cs → q ≡ scan_of ps cs → j ≡ whole_judged lines ps cs) where
+    read : (ps : List Point) (cs : List Claim) → read_to today s lines ≡ going ps cs → (x : Judgement) → whole_judged lines ps cs ≡ x → listing_of s ≡ listing_or x ps
+    read ps cs r x w = good ∙ ap (listing_from lines) r ∙ ap (λ (y : Judgement). listing_or y ps) w
 
-          whole : (x : Judgement) → whole_judged lines ps cs ≡ x → l.judgement ≡ whole_judged lines ps cs → l.count ≡ length ps → Stands (listing_of s) l rows at
-          whole Accepted w a b =
-              let few = few-points lines ps cs w in
-              let formed = well-formed s ps (read Accepted w) in
-              rw (read Accepted w, b) (a ∙ w, points-same rows at lines ps cs h few formed, points-held rows at lines ps cs h few formed)
-          whole (refused x) w a b = rw (read (refused x) w) (a ∙ w)
+    pub stands-refused : (r : Refusal) → j ≡ Err r → Stands (listing_of s) (Err r) rows at
+    stands-refused r is = go (read_to today s lines) refl h e
+      where
+        go : (x : Reading) → read_to today s lines ≡ x → ScannedSo rows at lines x → progress_of x ≡ Ok q → Stands (listing_of s) (Err r) rows at
+        go (refused_reading x) t h p = let z : ◌≡◌ {A = ℕ} 0 1 = cc in absurd (omega arith)
+        go (going ps cs) t h p =
+            let same : q ≡ scan_of ps cs = cc in
+            rw (read ps cs t (Err r) (sym (judged ps cs h same) ∙ is)) refl
+
+    pub stands-going : (u : Unit {0}) → j ≡ Ok u → Stands (listing_of s) (Ok q.points) rows at
+    stands-going u is = go (read_to today s lines) refl h e
+      where
+        go : (x : Reading) → read_to today s lines ≡ x → ScannedSo rows at lines x → progress_of x ≡ Ok q → Stands (listing_of s) (Ok q.points) rows at
+        go (refused_reading x) t h p = let z : ◌≡◌ {A = ℕ} 0 1 = cc in absurd (omega arith)
+        go (going ps cs) t h p =
+            let same : q ≡ scan_of ps cs = cc in
+            let count : q.points ≡ length ps = ap (λ (x : Scan). x.points) same in
+            let w : whole_judged lines ps cs ≡ accepted = sym (judged ps cs h same) ∙ is in
+            let few = few-points lines ps cs w in
+            let formed = well-formed s ps (read ps cs t accepted w) in
+            rw (read ps cs t accepted w, count) (points-same rows at lines ps cs h few formed, points-held rows at lines ps cs h few formed)
 
 pub listing-good : (s : List ℕ) → good_length (length s) ≡ true → listing_of s ≡ listing_from (length s / line_bytes) (read_to today s (length s / line_bytes))
 unfolding listing_within

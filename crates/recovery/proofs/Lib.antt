@@ -1,2 +1,1 @@
-pub mod NewNames
 pub mod Stages

@@ -3,7 +3,7 @@ ghost use Rattle.std.specs.Prelude.{◌≡◌};
 ghost use Rattle.recovery.specs.Left.{left_of};
 
 // How far a run came: it left nothing, what it had only begun, or its results in place and its state beside.
-#[derive(Clone, Copy)]
+#[derive(Clone, Copy, PartialEq, Eq)]
 pub enum Left {
     Nothing,
     Begun,

@@ -16,6 +16,7 @@ use Rattle.model.specs.Limits.{registers, MAX}
 use Rattle.model.specs.Facts.{between, exactly, register_range, size_range, unclaimed_range, Facts, range_of, lo, hi, with_claim, facts_of}
 use Rattle.model.specs.Limited.{ClaimLimited}
 use Rattle.model.proofs.Facts.{facts-long, unclaimed-ends}
+use Rattle.line_rows.specs.declared.rows.Row.{Row}
 use Rattle.line_rows.specs.Rows.{row_at}
 use Rattle.decoded.specs.Decoded.{claim_from, claims_from}
 use Rattle.decoded.proofs.Claims.{claims-none}
@@ -37,7 +38,7 @@ top_small v = go (ltb v registers)
     go false = omega arith
 
 -- nothing claimed
-pub held_none : (rows : List ℕ) (from v : ℕ) → v < registers → (r : Range) → r ≡ unclaimed_range v → Held r (facts_of (claims_from rows from 0)) v
+pub held_none : (rows : List Row) (from v : ℕ) → v < registers → (r : Range) → r ≡ unclaimed_range v → Held r (facts_of (claims_from rows from 0)) v
 unfolding facts_of
 held_none rows from v h r e =
     let ends = unclaimed-ends v (omega arith) in
@@ -79,13 +80,13 @@ module _ (f : Facts) (v : ℕ) (inside : v < length f.ranges) where
   held_more (Turn q) t r h = h
 
 -- the claim of one row more
-pub held_next : (rows : List ℕ) (from v n : ℕ) → v < registers → ClaimLimited (claim_from (row_at rows (from + n))) → (r : Range) → Held r (facts_of (claims_from rows from n)) v
+pub held_next : (rows : List Row) (from v n : ℕ) → v < registers → ClaimLimited (claim_from (row_at rows (from + n))) → (r : Range) → Held r (facts_of (claims_from rows from n)) v
     → Held (range_after (claim_from (row_at rows (from + n))) v r) (facts_of (claims_from rows from (suc n))) v
 held_next rows from v n h t r k =
     rw (facts-next rows from n)
     (held_more (facts_of (claims_from rows from n)) v (omega (arith, facts-long (claims_from rows from n))) (claim_from (row_at rows (from + n))) t r k)
 
 -- and of all rows
-pub held_all : (rows : List ℕ) (v from n from' n' : ℕ) (r : Range) → from ≡ from' → n ≡ n' → Held r (facts_of (claims_from rows from n)) v
+pub held_all : (rows : List Row) (v from n from' n' : ℕ) (r : Range) → from ≡ from' → n ≡ n' → Held r (facts_of (claims_from rows from n)) v
     → (r.lo ≡ lo (facts_of (claims_from rows from' n')).ranges v) × (r.hi ≡ hi (facts_of (claims_from rows from' n')).ranges v) × (r.hi ≤ MAX)
 held_all rows v from n from' n' r e f h = rw (← e, ← f) (h.low, h.high, h.small)

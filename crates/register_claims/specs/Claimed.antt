@@ -1,16 +1,9 @@
--- What the claims of a point say of one register: its range claim by claim, and the register of a TURN.
+-- What the claims of a point say of one register: its range, claim by claim.
 use Rattle.std.specs.Prelude.{ℕ, cond, eqb}
 use Rattle.model.specs.declared.claims.Range.{Range}
 use Rattle.model.specs.declared.claims.Claim.{Claim}
 use Rattle.model.specs.declared.claims.Claim.TheVariants.{Leas, Most, Strp, Turn}
-use Rattle.model.specs.declared.claims.Turning.{Turning}
-use Rattle.model.specs.declared.claims.Turning.TheVariants.{Absent as no_turn, Register as turning}
 use Rattle.model.specs.Facts.{between}
-
--- the register of a TURN, or 0
-abbrev pub register_in : Turning → ℕ
-register_in no_turn = 0
-register_in (turning r) = r
 
 -- the range of a variable after one claim more
 abbrev pub range_after : Claim → ℕ → Range → Range

@@ -6,44 +6,31 @@ ghost use Rattle.rows_and_places.specs.Points.{point_in, Placed};
 ghost use Rattle.register_claims.specs.Claimed.{range_after};
 
 use decoded::claim_at;
+use line_rows::rows::Row;
 use model::claims::{Claim, Range};
-use rows_and_places::places::{claims_of, first_of};
+use rows_and_places::places::{Places, claims_of, first_of};
 
 // The range of the variable v after one claim more.
 fn range_after(c: Claim, v: usize, r: Range) -> Range
     ensures { result ≡ range_after c v r }
 {
     match c {
-        Claim::Leas { v: u, least } => {
-            if u == v {
-                return Range::between(least, r.hi);
-            }
-            r
-        }
-        Claim::Most { v: u, most } => {
-            if u == v {
-                return Range::between(r.lo, most);
-            }
-            r
-        }
-        Claim::Strp(_) => r,
-        Claim::Turn { register: _ } => r,
+        Claim::Leas { v: u, least } if u == v => Range::between(least, r.hi),
+        Claim::Most { v: u, most } if u == v => Range::between(r.lo, most),
+        _ => r,
     }
 }
 
 // The range of the register v at point p.
-pub fn range_at<'a>(rows: &'a [u64], at: &'a [u16], p: usize, v: usize) -> Range
+pub fn range_at(rows: &[Row], at: &Places, p: usize, v: usize) -> Range
     requires { Placed rows.now at.now p × (v < registers) }
     ensures { (result.lo ≡ lo (facts_of (point_in rows.now at.now p).claims).ranges v) × (result.hi ≡ hi (facts_of (point_in rows.now at.now p).claims).ranges v) × (result.hi ≤ MAX) }
 {
     let from = first_of(at, p);
     let n = claims_of(at, p);
     let mut r = Range::unclaimed(v);
-    let mut j = 0;
-    while j < n {
-        let c = claim_at(rows, from + j);
-        r = range_after(c, v, r);
-        j += 1;
+    for j in 0..n {
+        r = range_after(claim_at(rows, from + j), v, r);
     }
     r
 }

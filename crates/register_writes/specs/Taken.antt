@@ -1,12 +1,10 @@
 -- What is kept of all that writes the TURN register.
-use Rattle.std.specs.Prelude.{Bool, false, List}
-use Rattle.model.specs.declared.claims.Turning.{Turning}
-use Rattle.model.specs.declared.claims.Turning.TheVariants.{Absent as no_turn, Register as turning}
+use Rattle.std.specs.Prelude.{ℕ, cond, List, Option, None, Some}
 use Rattle.model.specs.Lists.{every}
 use Rattle.model.specs.Listing.{Point}
 use Rattle.model.specs.Bound.{only_takes}
 
--- every instruction that writes the TURN register only takes from it; false without a TURN
-abbrev pub only_taken : List Point → Turning → Bool
-only_taken ps no_turn = false
-only_taken ps (turning r) = every (only_takes r) ps
+-- the TURN register, where every instruction that writes it only takes from it
+abbrev pub only_taken : List Point → Option ℕ → Option ℕ
+only_taken ps None = None
+only_taken ps (Some r) = cond (every (only_takes r) ps) (Some r) None

@@ -9,10 +9,12 @@ use native.Mathlib.Decide.{ℕ_discrete}
 use lib.ListN.{length, length-append, get_or-append}
 use lib.Seq.{get_or_at, ext_get_or}
 use Rattle.model.specs.Listing.{Point, first_line, point_at}
+use Rattle.line_rows.specs.declared.rows.Row.{Row}
 use Rattle.decoded.proofs.Claims.{claims-count}
+use Rattle.rows_and_places.specs.declared.places.Place.{Place}
 use Rattle.rows_and_places.specs.Points.{line_in, number_in, first_in, point_in, points_in}
 
-module _ (rows at : List ℕ) where
+module _ (rows : List Row) (at : List Place) where
   pub points_none : points_in rows at 0 ≡ []
   unfolding points_in
   points_none = refl

@@ -1,4 +1,4 @@
-// The lines of a listing, read in order: a row of numbers for each, and a place for each point.
+// The lines of a listing, read in order: a row for each, and a place for each point.
 #![tactic(auto)]
 
 pub mod places;

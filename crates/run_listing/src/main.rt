@@ -5,225 +5,155 @@
 // broken off.
 #![tactic(auto)]
 
-ghost use Rattle.std.specs.Prelude.{◌≡◌, true};
+ghost use Rattle.std.specs.Prelude.{◌≤◌, length, IsSome};
 ghost use Rattle.saved.specs.Numbers.{number_in};
-ghost use Rattle.saved.specs.States.{saved_in};
-ghost use Rattle.run_parts.specs.FileRun.{is_number};
 
 use broken_off::{is_left_over, new_name_of, put_right};
 use file_run::run_of;
-use files::{are_removed, is_claimed, is_read, is_removed, open, say};
+use files::{Reported, claim, read, remove, remove_both, say};
 use recovery::left::Left;
-use run_parts::is_made;
+use run_parts::{Inputs, is_made};
 use run_saved::{WRAPPED, explain_report, print, save};
-use saved::numbers::{Parsed, parse};
+use saved::numbers::parse;
 use saved::states::read_state;
-use streams::{argument, argument_count, read_full, write};
+use streams::text::{Path, Text};
+use streams::{argument, argument_count, write};
 
-// Runs, saves and prints, and answers what is left of the new files. The results before the run are lent too, since what is saved and
-// printed is what the run makes of them.
-fn run_on(
-    rt: HostRuntime,
-    listing: &[u8],
-    trays: &[u8],
-    before: &[u8],
-    results: &mut [u8],
-    text: &[u8],
-    amount: &[u8],
-) -> Left
-    requires before_value { before.now ≡ results.old }
-    requires text_value { (saved_in text.now).whole ≡ true }
-    requires amount_value { is_number (number_in amount.now) ≡ true }
+// Runs, saves and prints, and answers what is left of the new files.
+fn run_on(rt: HostRuntime, inputs: &Inputs) -> Left
+    requires { length inputs.now.results.now ≤ 65537 }
 {
-    let mut line = [0u8; 40];
-    let mut after = [0u8; 680];
-    let report = run_of(listing, trays, results, text, amount, &mut line, &mut after);
-    if is_made(report) {
-        let left = save(rt, listing, trays, before, text, amount, results, &after);
-        if is_done(left) {
-            let files = b"results and state are replaced";
-            print(rt, listing, trays, before, text, amount, &line, files);
+    let mut room = [0; 65537];
+    let results = &mut room[..inputs.results.len()];
+    let made = run_of(inputs, results);
+    if is_made(made.report) {
+        let left = save(rt, inputs, results, &made.state);
+        if left == Left::Nothing {
+            print(rt, inputs, &made.line, b"results and state are replaced");
         }
         return left;
     }
-    explain_report(rt, listing, trays, before, text, amount, report);
-    let files = b"no file was changed";
-    print(rt, listing, trays, before, text, amount, &line, files);
+    explain_report(rt, inputs, made.report);
+    print(rt, inputs, &made.line, b"no file was changed");
     Left::Begun
 }
 
-// Whether nothing is left of the new files, since both are in their places.
-fn is_done(left: Left) -> bool {
-    match left {
-        Left::Nothing => true,
-        Left::Begun => false,
-        Left::Half => false,
-    }
+// Reads the file that an argument names.
+fn read_named<const N: usize>(
+    rt: HostRuntime,
+    i: usize,
+    text: &mut Text<N>,
+) -> Result<(), Reported> {
+    let path: Path = argument(rt, i);
+    read(rt, path.as_bytes(), text)
 }
 
-// Reads the results, and then runs.
-fn with_results(rt: HostRuntime, listing: &[u8], trays: &[u8], text: &[u8], amount: &[u8]) -> Left
-    requires text_value { (saved_in text.now).whole ≡ true }
-    requires amount_value { is_number (number_in amount.now) ≡ true }
-{
-    let mut path = [0u8; 4096];
-    let n = argument(rt, 3, &mut path);
-    let Some(mut file) = open(rt, &path[..n]) else {
-        return Left::Begun;
-    };
-    let mut results = [0u8; 65537];
-    let m = read_full(&mut file, &mut results);
-    if !is_read(rt.stderr(), file, &path[..n], m, 65537) {
-        return Left::Begun;
-    }
-    let before = results;
-    run_on(
-        rt,
-        listing,
-        trays,
-        &before[..m],
-        &mut results[..m],
-        text,
-        amount,
-    )
-}
-
-// Reads the state, and then the rest.
-fn with_state(rt: HostRuntime, listing: &[u8], trays: &[u8], amount: &[u8]) -> Left
-    requires { is_number (number_in amount.now) ≡ true }
-{
-    let mut path = [0u8; 4096];
-    let n = argument(rt, 4, &mut path);
-    let Some(mut file) = open(rt, &path[..n]) else {
-        return Left::Begun;
-    };
-    let mut text = [0u8; 681];
-    let m = read_full(&mut file, &mut text);
-    if !is_read(rt.stderr(), file, &path[..n], m, 681) {
-        return Left::Begun;
-    }
-    let saved = read_state(&text[..m]);
-    if saved.whole {
-        return with_results(rt, listing, trays, &text[..m], amount);
-    }
+// Says that the file of the state holds none.
+fn say_no_state(rt: HostRuntime) {
+    let path: Path = argument(rt, 4);
     say(
         rt.stderr(),
-        &path[..n],
+        path.as_bytes(),
         b"it is no state: a JUMP line and 16 SETC lines, registers 0 to 15",
     );
-    Left::Begun
 }
 
-// Reads the trays, and then the rest.
-fn with_trays(rt: HostRuntime, listing: &[u8], amount: &[u8]) -> Left
-    requires { is_number (number_in amount.now) ≡ true }
+// Reads the four files, and runs. The answer is what is left of the new files.
+fn run_claimed(rt: HostRuntime, budget: &[u8]) -> Result<Left, Reported>
+    requires { IsSome (number_in budget.now) }
 {
-    let mut path = [0u8; 4096];
-    let n = argument(rt, 2, &mut path);
-    let Some(mut file) = open(rt, &path[..n]) else {
-        return Left::Begun;
-    };
-    let mut trays = [0u8; 65537];
-    let m = read_full(&mut file, &mut trays);
-    if !is_read(rt.stderr(), file, &path[..n], m, 65537) {
-        return Left::Begun;
+    let mut listing = Text::<65521>::empty();
+    read_named(rt, 1, &mut listing)?;
+    let mut trays = Text::<65537>::empty();
+    read_named(rt, 2, &mut trays)?;
+    let mut state = Text::<681>::empty();
+    read_named(rt, 4, &mut state)?;
+    if read_state(state.as_bytes()).is_none() {
+        say_no_state(rt);
+        return Err(Reported);
     }
-    with_state(rt, listing, &trays[..m], amount)
-}
-
-// Reads the listing, and then the rest. The answer is what is left of the new files.
-fn with_listing(rt: HostRuntime, amount: &[u8]) -> Left
-    requires { is_number (number_in amount.now) ≡ true }
-{
-    let mut path = [0u8; 4096];
-    let n = argument(rt, 1, &mut path);
-    let Some(mut file) = open(rt, &path[..n]) else {
-        return Left::Begun;
+    let mut results = Text::<65537>::empty();
+    read_named(rt, 3, &mut results)?;
+    let inputs = Inputs {
+        listing: listing.as_bytes(),
+        trays: trays.as_bytes(),
+        results: results.as_bytes(),
+        state: state.as_bytes(),
+        budget,
     };
-    let mut listing = [0u8; 65521];
-    let m = read_full(&mut file, &mut listing);
-    if !is_read(rt.stderr(), file, &path[..n], m, 65521) {
-        return Left::Begun;
-    }
-    with_trays(rt, &listing[..m], amount)
+    Ok(run_on(rt, &inputs))
 }
 
 // The whole work with new files that are claimed. Where nothing was changed they are removed again.
-fn with_claimed(rt: HostRuntime, amount: &[u8], results_new: &[u8], state_new: &[u8])
-    requires { is_number (number_in amount.now) ≡ true }
+fn with_claimed(rt: HostRuntime, budget: &[u8], results_new: &[u8], state_new: &[u8])
+    requires { IsSome (number_in budget.now) }
 {
-    match with_listing(rt, amount) {
-        Left::Nothing => {}
-        Left::Begun => {
-            are_removed(rt, results_new, state_new);
+    match run_claimed(rt, budget) {
+        Ok(Left::Nothing | Left::Half) => {}
+        Ok(Left::Begun) | Err(_) => {
+            let _ = remove_both(rt, results_new, state_new);
         }
-        Left::Half => {}
     }
 }
 
 // Gives up before anything is read: what the wrapper has prepared is removed.
 fn give_up(rt: HostRuntime, prepared: bool, results_new: &[u8], state_new: &[u8]) {
     if prepared {
-        are_removed(rt, results_new, state_new);
+        let _ = remove_both(rt, results_new, state_new);
     }
 }
 
 // The whole work with a budget: claims the new files before anything is read, the results' first.
-fn with_budget(rt: HostRuntime, amount: &[u8], prepared: bool, results_new: &[u8], state_new: &[u8])
-    requires { is_number (number_in amount.now) ≡ true }
+fn with_budget(rt: HostRuntime, budget: &[u8], prepared: bool, results_new: &[u8], state_new: &[u8])
+    requires { IsSome (number_in budget.now) }
 {
-    if !is_claimed(rt, results_new, prepared) {
+    if claim(rt, results_new, prepared).is_err() {
         give_up(rt, prepared, results_new, state_new);
         return;
     }
-    if !is_claimed(rt, state_new, prepared) {
+    if claim(rt, state_new, prepared).is_err() {
         give_up(rt, prepared, results_new, state_new);
-        is_removed(rt, results_new);
+        let _ = remove(rt, results_new);
         return;
     }
-    with_claimed(rt, amount, results_new, state_new);
+    with_claimed(rt, budget, results_new, state_new);
 }
 
 // A run with the budget that is given, where it is a number.
 fn run_files(rt: HostRuntime, prepared: bool) {
-    let mut results_new = [0u8; 4096];
-    let n = new_name_of(rt, 3, &mut results_new);
-    let mut state_new = [0u8; 4096];
-    let m = new_name_of(rt, 4, &mut state_new);
-    let mut text = [0u8; 16];
-    let k = argument(rt, 5, &mut text);
-    match parse(&text[..k]) {
-        Parsed::Number(_) => {
-            with_budget(rt, &text[..k], prepared, &results_new[..n], &state_new[..m]);
-        }
-        Parsed::NoNumber => {
+    let results_new = new_name_of(rt, 3);
+    let state_new = new_name_of(rt, 4);
+    let budget: Text<16> = argument(rt, 5);
+    match parse(budget.as_bytes()) {
+        Some(_) => with_budget(
+            rt,
+            budget.as_bytes(),
+            prepared,
+            results_new.as_bytes(),
+            state_new.as_bytes(),
+        ),
+        None => {
             write(
                 rt.stderr(),
                 b"run_listing: the budget is a number from 0 to 4294967295\n",
             );
-            give_up(rt, prepared, &results_new[..n], &state_new[..m]);
+            give_up(rt, prepared, results_new.as_bytes(), state_new.as_bytes());
         }
     }
 }
 
 fn main(rt: HostRuntime) {
-    let count = argument_count(rt);
-    if count == 4 {
-        put_right(rt);
-        return;
-    }
-    if count == 6 {
-        if !is_left_over(rt) {
-            run_files(rt, false);
+    match argument_count(rt) {
+        4 => put_right(rt),
+        6 => {
+            if !is_left_over(rt) {
+                run_files(rt, false);
+            }
         }
-        return;
+        WRAPPED => run_files(rt, true),
+        _ => write(
+            rt.stderr(),
+            b"usage: run_listing LISTING TRAYS RESULTS STATE BUDGET\n",
+        ),
     }
-    if count == WRAPPED {
-        run_files(rt, true);
-        return;
-    }
-    write(
-        rt.stderr(),
-        b"usage: run_listing LISTING TRAYS RESULTS STATE BUDGET\n",
-    );
 }

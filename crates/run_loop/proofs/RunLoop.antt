@@ -14,8 +14,8 @@ use Rattle.model.specs.declared.machine.Table.{Table}
 use Rattle.model.specs.declared.machine.Table.TheVariants.{Trays, Results}
 use Rattle.model.specs.declared.machine.State.{State}
 use Rattle.model.specs.declared.answers.Refusal.{Refusal}
-use Rattle.model.specs.declared.answers.Judgement.{Judgement}
-use Rattle.model.specs.declared.answers.Judgement.TheVariants.{Accepted, Refused as refused}
+use Rattle.model.specs.Types.{Judgement, accepted}
+use Rattle.std.specs.Prelude.{Err}
 use Rattle.model.specs.declared.answers.Report.TheVariants.{Stopped, Paused, Refused as refused_run}
 use Rattle.model.specs.declared.answers.Outcome.{Outcome}
 use Rattle.model.specs.Limits.{registers}
@@ -35,10 +35,10 @@ use Rattle.state_tests.specs.States.{state}
 use Rattle.run_loop.specs.Runs.{outcome, RunByValue}
 
 -- what is known of the points of a listing that passes
-pub passes : (s : List ℕ) → listing_judged (listing_of s) ≡ Accepted → Passes (points_of (listing_of s))
-passes s accepted = go (listing_of s) refl accepted
+pub passes : (s : List ℕ) → listing_judged (listing_of s) ≡ accepted → Passes (points_of (listing_of s))
+passes s passed = go (listing_of s) refl passed
   where
-    go : (x : Listing) → listing_of s ≡ x → listing_judged x ≡ Accepted → Passes (points_of (listing_of s))
+    go : (x : Listing) → listing_of s ≡ x → listing_judged x ≡ accepted → Passes (points_of (listing_of s))
     go (refused_listing r) q j = let z : ◌≡◌ {A = ℕ} 0 1 = cc in absurd (omega arith)
     go (read_as ps) q j = rw q (record { formed = well-formed s ps q; owed = each-accepted ps (length ps) j })
 
@@ -153,27 +153,27 @@ module _ (l : List ℕ) (s : State) (t : Tables) (b : ℕ) where
   run_by j e = ap (λ (x : Judgement). ran_from x (points_of (listing_of l)) s t b) e
 
   -- turned back by 1 to 14 or 19
-  pub listing-refused : (r : Refusal) → listing_judged (listing_of l) ≡ refused r → RunByValue (run l s t b) (outcome (refused_run r) s 0) t.results
+  pub listing-refused : (r : Refusal) → listing_judged (listing_of l) ≡ Err r → RunByValue (run l s t b) (outcome (refused_run r) s 0) t.results
   unfolding run_judged_within
   listing-refused r e =
-      let q = run_by (refused r) (rw e) in
+      let q = run_by (Err r) (rw e) in
       record { outcome = sym (ap (λ (x : Ran). x.outcome) q); results = sym (ap (λ (x : Ran). x.tables.results) q) }
 
-  module _ (accepted : listing_judged (listing_of l) ≡ Accepted) where
+  module _ (passed : listing_judged (listing_of l) ≡ accepted) where
     judged-as : run_judged l s (sizes_of t) ≡ state_judged (points_of (listing_of l)) s (sizes_of t)
     unfolding run_judged_within
-    judged-as = rw accepted
+    judged-as = rw passed
 
     -- turned back by 15 to 17
-    pub state-refused : (r : Refusal) → state_judged (points_of (listing_of l)) s (sizes_of t) ≡ refused r → RunByValue (run l s t b) (outcome (refused_run r) s 0) t.results
+    pub state-refused : (r : Refusal) → state_judged (points_of (listing_of l)) s (sizes_of t) ≡ Err r → RunByValue (run l s t b) (outcome (refused_run r) s 0) t.results
     state-refused r e =
-        let q = run_by (refused r) (judged-as ∙ e) in
+        let q = run_by (Err r) (judged-as ∙ e) in
         record { outcome = sym (ap (λ (x : Ran). x.outcome) q); results = sym (ap (λ (x : Ran). x.tables.results) q) }
 
     -- the run as it ended
-    pub ran_to : state_judged (points_of (listing_of l)) s (sizes_of t) ≡ Accepted → (c₀ : Config) → c₀ ≡ config_of s t → (o : Outcome) (t' : Tables)
+    pub ran_to : state_judged (points_of (listing_of l)) s (sizes_of t) ≡ accepted → (c₀ : Config) → c₀ ≡ config_of s t → (o : Outcome) (t' : Tables)
         → finished (points_of (listing_of l)) (run_for (points_of (listing_of l)) b c₀) ≡ record { outcome = o; tables = t' }
         → RunByValue (run l s t b) o t'.results
     ran_to e c₀ same o t' f =
-        let q = run_by Accepted (judged-as ∙ e) ∙ ap (λ (c : Config). finished (points_of (listing_of l)) (run_for (points_of (listing_of l)) b c)) (sym same) ∙ f in
+        let q = run_by accepted (judged-as ∙ e) ∙ ap (λ (c : Config). finished (points_of (listing_of l)) (run_for (points_of (listing_of l)) b c)) (sym same) ∙ f in
         record { outcome = sym (ap (λ (x : Ran). x.outcome) q); results = sym (ap (λ (x : Ran). x.tables.results) q) }

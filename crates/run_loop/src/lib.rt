@@ -2,19 +2,19 @@
 #![tactic(auto)]
 
 ghost use Rattle.std.specs.Prelude.{◌≡◌, take};
-ghost use Rattle.model.specs.declared.answers.Judgement.TheVariants.{Accepted};
+ghost use Rattle.model.specs.Types.{accepted};
 ghost use Rattle.model.specs.Limits.{registers};
 ghost use Rattle.model.specs.Listing.{listing_of, points_of};
 ghost use Rattle.model.specs.Check.{listing_judged};
 ghost use Rattle.model.specs.Machine.{lent, sizes_of};
 ghost use Rattle.model.specs.Run as Run;
 ghost use Rattle.state_tests.specs.States.{state};
+ghost use Rattle.model.specs.Instructions.{is_stop};
 ghost use Rattle.run_loop.specs.Runs.{outcome, Coded, RunByValue};
 
-use fetch::{instruction_at, is_stop};
 use model::answers::{Outcome, Report};
-use model::limits::{REGISTERS, VARIABLES};
-use model::machine::State;
+use model::limits::VARIABLES;
+use model::machine::{Instruction, State};
 use state_tests::words;
 use steps::step::step;
 use steps::values::{registers_of, values_of};
@@ -31,33 +31,39 @@ fn ended(report: Report, point: usize, values: [u32; VARIABLES], steps: u32) -> 
     }
 }
 
+// Whether an instruction is STOP.
+fn is_stop(instruction: Instruction) -> bool
+    ensures { result ≡ is_stop instruction }
+{
+    matches!(instruction, Instruction::Stop)
+}
+
 // The run of a listing that passes, by the code of its points, from a state that nothing turns back.
 pub fn run_code(
     listing: &[u8],
-    code: &[u64],
-    start: usize,
-    registers: [u32; REGISTERS],
+    code: &[Instruction],
+    start: State,
     trays: &[u8],
     results: &mut [u8],
     budget: u32,
 ) -> Outcome
-    requires listing_value { listing_judged (listing_of listing.now) ≡ Accepted }
+    requires listing_value { listing_judged (listing_of listing.now) ≡ accepted }
     requires coded { Coded (points_of (listing_of listing.now)) code.now }
-    requires results_value { Run.state_judged (points_of (listing_of listing.now)) (state start registers) (sizes_of (lent trays.now results.old)) ≡ Accepted }
-    ensures { RunByValue (Run.run listing.now (state start registers) (lent trays.now results.old) budget) result results.new }
+    requires results_value { Run.state_judged (points_of (listing_of listing.now)) start (sizes_of (lent trays.now results.old)) ≡ accepted }
+    ensures { RunByValue (Run.run listing.now start (lent trays.now results.old) budget) result results.new }
 {
     let sizes = [trays.len(), results.len()];
-    let mut values = values_of(registers, words(sizes));
-    let mut point = start;
+    let mut values = values_of(start.registers, words(sizes));
+    let mut point = start.point;
     let mut made: u32 = 0;
     loop {
-        if is_stop(code, point) {
+        let instruction = code[point];
+        if is_stop(instruction) {
             return ended(Report::Stopped, point, values, made);
         }
         if made == budget {
             return ended(Report::Paused, point, values, made);
         }
-        let instruction = instruction_at(code, point);
         point = step(instruction, point, &mut values, trays, results);
         made += 1;
     }

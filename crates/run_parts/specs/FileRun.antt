@@ -1,29 +1,28 @@
 -- What a run makes of the bytes of its files: the run itself, the line that is printed, and what is saved.
-use Rattle.std.specs.Prelude.{ℕ, ◌≡◌, Bool, true, false, ◌||◌, cond, List, ltb, eqb}
+use Rattle.std.specs.Prelude.{ℕ, ◌≡◌, Bool, true, false, ◌||◌, cond, List, Option, Some, None, replicate, ltb, eqb}
 use Rattle.model.specs.declared.answers.Report.{Report}
 use Rattle.model.specs.declared.answers.Report.TheVariants.{Stopped, Paused, Refused as refused_run}
-use Rattle.model.specs.Limits.{greatest_size}
+use Rattle.model.specs.declared.machine.State.{State}
+use Rattle.model.specs.Limits.{greatest_size, registers}
 use Rattle.model.specs.Machine.{lent}
 use Rattle.model.specs.Run.{Ran, run}
-use Rattle.saved.specs.declared.numbers.Parsed.{Parsed}
-use Rattle.saved.specs.declared.numbers.Parsed.TheVariants.{Number, NoNumber}
 use Rattle.saved.specs.Numbers.{number_in}
 use Rattle.saved.specs.States.{saved_in, text_of}
 use Rattle.output.specs.RunLine.{answer_line}
 
 -- the steps that a budget allows; none where it is no number
-abbrev pub steps_of : Parsed → ℕ
-steps_of (Number n) = n
-steps_of NoNumber = 0
+abbrev pub steps_of : Option ℕ → ℕ
+steps_of (Some n) = n
+steps_of None = 0
 
--- a budget that is a number
-abbrev pub is_number : Parsed → Bool
-is_number (Number n) = true
-is_number NoNumber = false
+-- the state that a run begins from; where the text is none, point 0 with registers of 0
+abbrev pub state_of : Option State → State
+state_of (Some s) = s
+state_of None = record { point = 0; registers = replicate registers 0 }
 
 -- the run of a listing over trays and results, from the state of a text, with the budget of an argument
 abbrev pub run_of : List ℕ → List ℕ → List ℕ → List ℕ → List ℕ → Ran
-run_of listing trays results text amount = run listing (saved_in text).state (lent trays results) (steps_of (number_in amount))
+run_of listing trays results text amount = run listing (state_of (saved_in text)) (lent trays results) (steps_of (number_in amount))
 
 -- the line that is printed for a run
 abbrev pub line_of : Ran → List ℕ

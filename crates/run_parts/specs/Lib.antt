@@ -1,1 +1,2 @@
 pub mod FileRun
+pub mod OverInputs

@@ -1,3 +1,3 @@
-pub mod GatheredRows
+pub mod GatheredCode
 pub mod Promise
 pub mod PointCount

@@ -1,8 +1,7 @@
 -- Demand 3 for what the code hands back: every list of runs through either entry, each from the state that the one before handed back.
 -- Of a run only what the contract of its entry states is used. The trays are lent to be read, so they are after it what they were before.
-use Rattle.std.specs.Prelude.{ℕ, ◌≡◌, true, List, [], ◌∷◌, length}
+use Rattle.std.specs.Prelude.{ℕ, ◌≡◌, true, List, [], ◌∷◌, length, Ok}
 use Rattle.model.specs.declared.machine.State.{State}
-use Rattle.model.specs.declared.answers.Verdict.TheVariants.{Passed}
 use Rattle.model.specs.declared.answers.Outcome.{Outcome}
 use Rattle.model.specs.Limits.{registers}
 use Rattle.model.specs.Listing.{listing_of, points_of}
@@ -61,6 +60,6 @@ AllRunWell l sizes s (r ∷ rs) = RunsWell (points_of (listing_of l)) sizes s r.
 -- the promise
 abbrev pub Promise : Type 0
 Promise =
-    (l : List ℕ) (points : ℕ) → check l ≡ Passed points →
+    (l : List ℕ) (points : ℕ) → check l ≡ Ok points →
     (sizes : List ℕ) (s : State) → length s.registers ≡ registers → meets_claims (points_of (listing_of l)) s sizes ≡ true →
     (runs : List RunMade) → MadeInOrder l sizes s runs → AllRunWell l sizes s runs

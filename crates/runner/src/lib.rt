@@ -1,34 +1,27 @@
 // The runner: a run of a listing with a budget of steps.
 #![tactic(auto)]
 
-ghost use Rattle.std.specs.Prelude.{◌≡◌, ◌*◌, ◌/◌, ◌≤◌, length};
-ghost use Rattle.model.specs.declared.answers.Judgement.TheVariants.{Accepted};
-ghost use Rattle.model.specs.declared.answers.Report.TheVariants.{Refused as refused_run};
-ghost use Rattle.model.specs.Limits.{line_bytes, greatest_listing};
-ghost use Rattle.model.specs.Listing.{listing_of, points_of};
-ghost use Rattle.model.specs.Check.{listing_judged};
-ghost use Rattle.model.specs.Machine.{lent, sizes_of};
+ghost use Rattle.std.specs.Prelude.{◌≡◌, ◌/◌, ◌≤◌, length};
+ghost use Rattle.model.specs.Limits.{line_bytes, greatest_listing, greatest_lines};
+ghost use Rattle.model.specs.Machine.{lent};
 ghost use Rattle.model.specs.Run as Run;
 ghost use Rattle.rows_and_places.specs.Points.{AllPlaced, points_in};
 ghost use Rattle.state_tests.specs.States.{state};
-ghost use Rattle.run_loop.specs.Runs.{outcome, Coded, RunByValue};
-ghost use Rattle.runner.specs.Runs.{CodeRoom};
+ghost use Rattle.run_loop.specs.Runs.{Coded, RunByValue};
+ghost use Rattle.runner.specs.Runs.{CodeRoom, outcome_of};
 
 use checker::judged_listing;
-use line_rows::rows::{ROW_NUMBERS, write_row};
-use model::answers::{Judgement, Outcome, Refusal, Report};
-use model::limits::{GREATEST_POINTS, REGISTERS};
-use model::machine::State;
-use rows_and_places::places::instruction_row;
+use decoded::instruction_from;
+use line_rows::rows::Row;
+use model::answers::{Outcome, Refusal, Report};
+use model::limits::{GREATEST_LINES, GREATEST_POINTS, REGISTERS};
+use model::machine::{Instruction, State};
+use rows_and_places::places::{Place, Places, instruction_row};
 use rows_and_places::sizes::{
-    ALL_ROWS, FEW_LISTING, FEW_ROWS, LONG_LISTING, LONG_ROWS, PLACE_NUMBERS, SHORT_LISTING,
-    SHORT_ROWS,
+    FEW_LINES, FEW_LISTING, LONG_LINES, LONG_LISTING, PLACES, SHORT_LINES, SHORT_LISTING,
 };
 use run_loop::run_code;
 use state_tests::state_judged;
-
-// The code of the longest listing: a row for each point.
-const ALL_CODE: usize = GREATEST_POINTS * ROW_NUMBERS;
 
 // What a run in place hands back besides the state.
 #[derive(Clone, Copy)]
@@ -37,115 +30,63 @@ pub struct Ending {
     pub steps: u32,
 }
 
-// Gathers the rows of the first n points, in their order.
-fn gather<'a>(rows: &'a [u64], at: &'a [u16], n: usize, code: &mut [u64])
+// Gathers the instructions of the first n points, in their order.
+fn gather(rows: &[Row], at: &Places, n: usize, code: &mut [Instruction])
     requires all_placed { AllPlaced rows.now at.now n }
-    requires n_in_bounds { n * 8 ≤ length code.old }
+    requires n_in_bounds { n ≤ length code.old }
     ensures { Coded (points_in rows.now at.now n) code.new }
 {
-    let mut p = 0;
-    while p < n {
-        let r = instruction_row(rows, at, p);
-        write_row(code, p, r);
-        p += 1;
+    for p in 0..n {
+        code[p] = instruction_from(instruction_row(rows, at, p));
     }
 }
 
-// A run that is turned back hands back the state as it was.
-fn turned_back(point: usize, registers: [u32; REGISTERS], r: Refusal) -> Outcome
-    ensures { result ≡ outcome (refused_run r) (state point registers) 0 }
-{
-    Outcome {
-        report: Report::Refused(r),
-        state: State { point, registers },
-        steps: 0,
-    }
-}
-
-// The run of a listing that passes, by the code of its points, from a state that is judged.
-fn run_judged(
-    j: Judgement,
+// The run of a listing of at most so many lines and points, or what turns it back.
+fn started<const LINES: usize, const POINTS: usize>(
     listing: &[u8],
-    code: &[u64],
-    start: usize,
-    registers: [u32; REGISTERS],
+    state: State,
+    trays: &[u8],
+    results: &mut [u8],
+    budget: u32,
+) -> Result<Outcome, Refusal>
+    requires lines_bound { (LINES ≤ greatest_lines) × (POINTS ≤ greatest_lines) }
+    requires listing_fits { length listing.now ≤ greatest_listing → length listing.now / line_bytes ≤ LINES }
+    requires code_room { CodeRoom (length listing.now) POINTS }
+    ensures { RunByValue (Run.run listing.now state (lent trays.now results.old) budget) (outcome_of state result) results.new }
+{
+    let mut rows = [Row::BLANK; LINES];
+    let mut at = [Place::NONE; PLACES];
+    let count = judged_listing(listing, &mut rows, &mut at)?;
+    let sizes = [trays.len(), results.len()];
+    state_judged(&rows, &at, count, state.point, state.registers, sizes)?;
+    let mut code = [Instruction::Stop; POINTS];
+    gather(&rows, &at, count, &mut code);
+    Ok(run_code(listing, &code, state, trays, results, budget))
+}
+
+// The same as an outcome. It stays a function of its own for each number of lines: the rows of many take a large part of the stack, which a
+// run of few lines does not touch.
+#[inline(never)]
+fn run_within<const LINES: usize, const POINTS: usize>(
+    listing: &[u8],
+    state: State,
     trays: &[u8],
     results: &mut [u8],
     budget: u32,
 ) -> Outcome
-    requires listing_value { listing_judged (listing_of listing.now) ≡ Accepted }
-    requires coded { Coded (points_of (listing_of listing.now)) code.now }
-    requires j_value { j ≡ Run.state_judged (points_of (listing_of listing.now)) (state start registers) (sizes_of (lent trays.now results.old)) }
-    ensures { RunByValue (Run.run listing.now (state start registers) (lent trays.now results.old) budget) result results.new }
+    requires lines_bound { (LINES ≤ greatest_lines) × (POINTS ≤ greatest_lines) }
+    requires listing_fits { length listing.now ≤ greatest_listing → length listing.now / line_bytes ≤ LINES }
+    requires code_room { CodeRoom (length listing.now) POINTS }
+    ensures { RunByValue (Run.run listing.now state (lent trays.now results.old) budget) result results.new }
 {
-    match j {
-        Judgement::Refused(r) => turned_back(start, registers, r),
-        Judgement::Accepted => run_code(listing, code, start, registers, trays, results, budget),
+    match started::<LINES, POINTS>(listing, state, trays, results, budget) {
+        Ok(outcome) => outcome,
+        Err(r) => Outcome {
+            report: Report::Refused(r),
+            state,
+            steps: 0,
+        },
     }
-}
-
-// A run, with rows that are lent for the lines and code for the points.
-fn run_in(
-    listing: &[u8],
-    rows: &mut [u64],
-    code: &mut [u64],
-    start: usize,
-    registers: [u32; REGISTERS],
-    trays: &[u8],
-    results: &mut [u8],
-    budget: u32,
-) -> Outcome
-    requires line_bytes_in_bounds { length listing.now ≤ greatest_listing → length listing.now / line_bytes * 8 ≤ length rows.old }
-    requires code_room { CodeRoom (length listing.now) code.old }
-    ensures { RunByValue (Run.run listing.now (state start registers) (lent trays.now results.old) budget) result results.new }
-{
-    let mut at = [0u16; PLACE_NUMBERS];
-    let l = judged_listing(listing, rows, &mut at);
-    let j = l.judgement;
-    match j {
-        Judgement::Refused(r) => turned_back(start, registers, r),
-        Judgement::Accepted => {
-            let count = l.count;
-            let sizes = [trays.len(), results.len()];
-            let judged = state_judged(rows, &at, count, start, registers, sizes);
-            gather(rows, &at, count, code);
-            run_judged(
-                judged, listing, code, start, registers, trays, results, budget,
-            )
-        }
-    }
-}
-
-// A run of a listing of more than few lines, with code that is lent for its points. It stays a function of its own: its rows take a large part of the stack,
-// which a run of few lines does not touch.
-fn run_many(
-    listing: &[u8],
-    code: &mut [u64],
-    start: usize,
-    registers: [u32; REGISTERS],
-    trays: &[u8],
-    results: &mut [u8],
-    budget: u32,
-) -> Outcome
-    requires { CodeRoom (length listing.now) code.old }
-    ensures { RunByValue (Run.run listing.now (state start registers) (lent trays.now results.old) budget) result results.new }
-{
-    if listing.len() <= SHORT_LISTING {
-        let mut rows = [0u64; SHORT_ROWS];
-        return run_in(
-            listing, &mut rows, code, start, registers, trays, results, budget,
-        );
-    }
-    if listing.len() <= LONG_LISTING {
-        let mut rows = [0u64; LONG_ROWS];
-        return run_in(
-            listing, &mut rows, code, start, registers, trays, results, budget,
-        );
-    }
-    let mut rows = [0u64; ALL_ROWS];
-    run_in(
-        listing, &mut rows, code, start, registers, trays, results, budget,
-    )
 }
 
 // A run of a listing from a state over both tables, with a budget of steps. It repeats 1 to 14 and 19, then tests 15 to 17.
@@ -154,24 +95,21 @@ fn run_many(
 pub fn run(listing: &[u8], state: State, trays: &[u8], results: &mut [u8], budget: u32) -> Outcome
     ensures { RunByValue (Run.run listing.now state (lent trays.now results.old) budget) result results.new }
 {
-    let point = state.point;
-    let registers = state.registers;
-    if listing.len() <= FEW_LISTING {
-        let mut rows = [0u64; FEW_ROWS];
-        let mut code = [0u64; FEW_ROWS];
-        return run_in(
-            listing, &mut rows, &mut code, point, registers, trays, results, budget,
-        );
+    match listing.len() {
+        0..=FEW_LISTING => {
+            run_within::<FEW_LINES, FEW_LINES>(listing, state, trays, results, budget)
+        }
+        0..=SHORT_LISTING => {
+            run_within::<SHORT_LINES, SHORT_LINES>(listing, state, trays, results, budget)
+        }
+        0..=LONG_LISTING => {
+            run_within::<LONG_LINES, GREATEST_POINTS>(listing, state, trays, results, budget)
+        }
+        _ => run_within::<GREATEST_LINES, GREATEST_POINTS>(listing, state, trays, results, budget),
     }
-    if listing.len() <= SHORT_LISTING {
-        let mut code = [0u64; SHORT_ROWS];
-        return run_many(listing, &mut code, point, registers, trays, results, budget);
-    }
-    let mut code = [0u64; ALL_CODE];
-    run_many(listing, &mut code, point, registers, trays, results, budget)
 }
 
-// The same from a point and registers. With it `run_many` has two callers, and so is compiled into neither.
+// The same from a point and registers.
 pub fn run_from(
     listing: &[u8],
     point: usize,
@@ -182,17 +120,5 @@ pub fn run_from(
 ) -> Outcome
     ensures { RunByValue (Run.run listing.now (state point registers) (lent trays.now results.old) budget) result results.new }
 {
-    if listing.len() <= FEW_LISTING {
-        let mut rows = [0u64; FEW_ROWS];
-        let mut code = [0u64; FEW_ROWS];
-        return run_in(
-            listing, &mut rows, &mut code, point, registers, trays, results, budget,
-        );
-    }
-    if listing.len() <= SHORT_LISTING {
-        let mut code = [0u64; SHORT_ROWS];
-        return run_many(listing, &mut code, point, registers, trays, results, budget);
-    }
-    let mut code = [0u64; ALL_CODE];
-    run_many(listing, &mut code, point, registers, trays, results, budget)
+    run(listing, State { point, registers }, trays, results, budget)
 }

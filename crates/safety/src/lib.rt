@@ -1,23 +1,23 @@
 // Refusals 12 and 13: whether the divisor or the access of a point is safe by what is known at the point itself.
 #![tactic(auto)]
 
-ghost use Rattle.std.specs.Prelude.{◌≡◌, cond, ◌+◌, ◌*◌, ◌≤◌, ◌<◌, leb};
-ghost use Rattle.model.specs.declared.answers.Judgement.TheVariants.{Accepted, Refused};
+ghost use Rattle.std.specs.Prelude.{◌≡◌, cond, ◌+◌, ◌*◌, ◌≤◌, ◌<◌, leb, Err};
+ghost use Rattle.model.specs.Types.{accepted};
 ghost use Rattle.model.specs.declared.answers.Refusal.TheVariants.{DivisorMayBeZero, AccessMayLeave};
 ghost use Rattle.model.specs.Limits.{blank_variable, greatest_links, variables};
 ghost use Rattle.model.specs.Facts.{lo, hi};
 ghost use Rattle.model.specs.Machine.{bytes_of, size_variable};
-ghost use Rattle.model.specs.Transfer.{operand_range, stripe};
+ghost use Rattle.model.specs.Transfer.{stripe};
 ghost use Rattle.model.specs.Follows.{follows};
 ghost use Rattle.model.specs.Check.{divisor_safe, access_safe, safety_judged};
-ghost use Rattle.model.specs.Limited.{OperandLimited, AccessLimited, Limited};
-ghost use Rattle.facts.specs.Known.{ranges_of, known, Ends, AtPoint};
+ghost use Rattle.model.specs.Limited.{AccessLimited, Limited};
 
-use facts::sizes::STRIPE_NUMBERS;
+use facts::point::PointFacts;
+use facts::sizes::scaled;
 use goals::follows::goal_follows;
 use model::answers::{Judgement, Refusal};
 use model::claims::Stripe;
-use model::limits::{BLANK_VARIABLE, RESULTS_SIZE, TRAYS_SIZE, VARIABLES};
+use model::limits::{BLANK_VARIABLE, RESULTS_SIZE, TRAYS_SIZE};
 use model::machine::{Access, Instruction, Operand, Table, Width};
 
 // The bytes of an access.
@@ -42,153 +42,99 @@ fn size_variable(b: Table) -> u8
 }
 
 // Whether the divisor is never 0.
-fn divisor_safe<'a>(low: &'a [u64; VARIABLES], high: &'a [u64; VARIABLES], o: Operand) -> bool
-    requires ends { Ends low.now high.now }
-    requires operand_limited { OperandLimited o }
-    ensures { result ≡ leb 1 (operand_range (ranges_of low.now high.now) o).lo }
+fn divisor_safe(f: &PointFacts, o: Operand) -> bool
+    ensures { result ≡ divisor_safe f.now o }
 {
-    match o {
-        Operand::Variable(v) => 1 <= low[v],
-        Operand::Number(c) => 1 <= c,
-    }
+    1 <= f.operand_range(o).lo
 }
 
 // Whether the ranges alone keep the access inside its table.
-fn safe_by_ranges<'a>(low: &'a [u64; VARIABLES], high: &'a [u64; VARIABLES], access: Access) -> bool
-    requires ends { Ends low.now high.now }
-    requires access_limited { AccessLimited access.a access.i access.k }
-    ensures { result ≡ leb (access.a * hi (ranges_of low.now high.now) access.i + access.k + bytes_of access.w) (lo (ranges_of low.now high.now) (size_variable access.table)) }
+fn safe_by_ranges(f: &PointFacts, access: Access) -> bool
+    requires { AccessLimited access.a access.i access.k }
+    ensures { result ≡ leb (access.a * hi f.now.ranges access.i + access.k + bytes_of access.w) (lo f.now.ranges (size_variable access.table)) }
 {
     let Access { table, w, a, i, k } = access;
-    let top = high[i];
-    let size = low[size_variable(table) as usize];
-    let n = bytes(w);
-    a as u64 * top + k as u64 + n <= size
+    let size = f.range(usize::from(size_variable(table)));
+    scaled(a as u16, f.range(i).hi) + k as u64 + bytes(w) <= size.lo
 }
 
 // Whether size - a * i >= k + w follows.
-fn safe_by_goal<'a>(
-    low: &'a [u64; VARIABLES],
-    high: &'a [u64; VARIABLES],
-    stripes: &'a [u64; STRIPE_NUMBERS],
-    m: usize,
-    access: Access,
-) -> bool
-    requires at_point { AtPoint low.now high.now stripes.now m }
-    requires access_limited { AccessLimited access.a access.i access.k }
-    ensures { result ≡ follows (known low.now high.now stripes.now m) greatest_links (stripe (size_variable access.table) access.a access.i blank_variable (access.k + bytes_of access.w) 0) }
+fn safe_by_goal(f: &PointFacts, access: Access) -> bool
+    requires { AccessLimited access.a access.i access.k }
+    ensures { result ≡ follows f.now greatest_links (stripe (size_variable access.table) access.a access.i blank_variable (access.k + bytes_of access.w) 0) }
 {
     let Access { table, w, a, i, k } = access;
-    let x = size_variable(table);
-    let n = bytes(w);
     let g = Stripe {
-        x,
+        x: size_variable(table),
         a: a as u16,
         y: i as u8,
         z: BLANK_VARIABLE as u8,
-        plus: k as u64 + n,
+        plus: k as u64 + bytes(w),
         minus: 0,
     };
-    goal_follows(low, high, stripes, m, g)
+    goal_follows(f.known(), g)
 }
 
 // Whether the access lies inside its table.
-fn access_safe<'a>(
-    low: &'a [u64; VARIABLES],
-    high: &'a [u64; VARIABLES],
-    stripes: &'a [u64; STRIPE_NUMBERS],
-    m: usize,
-    access: Access,
-) -> bool
-    requires at_point { AtPoint low.now high.now stripes.now m }
-    requires access_limited { AccessLimited access.a access.i access.k }
-    ensures { result ≡ access_safe (known low.now high.now stripes.now m) access.table access.w access.a access.i access.k }
+fn access_safe(f: &PointFacts, access: Access) -> bool
+    requires { AccessLimited access.a access.i access.k }
+    ensures { result ≡ access_safe f.now access.table access.w access.a access.i access.k }
 {
-    if safe_by_ranges(low, high, access) {
-        return true;
-    }
-    safe_by_goal(low, high, stripes, m, access)
+    safe_by_ranges(f, access) || safe_by_goal(f, access)
 }
 
 // The judgement of a divisor.
-fn divisor_judged<'a>(
-    line: usize,
-    low: &'a [u64; VARIABLES],
-    high: &'a [u64; VARIABLES],
-    stripes: &'a [u64; STRIPE_NUMBERS],
-    m: usize,
-    o: Operand,
-) -> Judgement
-    requires at_point { AtPoint low.now high.now stripes.now m }
-    requires operand_limited { OperandLimited o }
-    ensures { result ≡ cond (divisor_safe (known low.now high.now stripes.now m) o) Accepted (Refused (DivisorMayBeZero line)) }
+fn divisor_judged(line: usize, f: &PointFacts, o: Operand) -> Judgement
+    ensures { result ≡ cond (divisor_safe f.now o) accepted (Err (DivisorMayBeZero line)) }
 {
-    if divisor_safe(low, high, o) {
-        return Judgement::Accepted;
+    if divisor_safe(f, o) {
+        Ok(())
+    } else {
+        Err(Refusal::DivisorMayBeZero { line })
     }
-    Judgement::Refused(Refusal::DivisorMayBeZero { line })
 }
 
 // The judgement of an access.
-fn access_judged<'a>(
-    line: usize,
-    low: &'a [u64; VARIABLES],
-    high: &'a [u64; VARIABLES],
-    stripes: &'a [u64; STRIPE_NUMBERS],
-    m: usize,
-    access: Access,
-) -> Judgement
-    requires at_point { AtPoint low.now high.now stripes.now m }
-    requires access_limited { AccessLimited access.a access.i access.k }
-    ensures { result ≡ cond (access_safe (known low.now high.now stripes.now m) access.table access.w access.a access.i access.k) Accepted (Refused (AccessMayLeave line)) }
+fn access_judged(line: usize, f: &PointFacts, access: Access) -> Judgement
+    requires { AccessLimited access.a access.i access.k }
+    ensures { result ≡ cond (access_safe f.now access.table access.w access.a access.i access.k) accepted (Err (AccessMayLeave line)) }
 {
-    if access_safe(low, high, stripes, m, access) {
-        return Judgement::Accepted;
+    if access_safe(f, access) {
+        Ok(())
+    } else {
+        Err(Refusal::AccessMayLeave { line })
     }
-    Judgement::Refused(Refusal::AccessMayLeave { line })
 }
 
 // The judgement of a point's own safety.
-pub fn safety_judged<'a>(
-    line: usize,
-    low: &'a [u64; VARIABLES],
-    high: &'a [u64; VARIABLES],
-    stripes: &'a [u64; STRIPE_NUMBERS],
-    m: usize,
-    i: Instruction,
-) -> Judgement
-    requires at_point { AtPoint low.now high.now stripes.now m }
-    requires limited { Limited i }
-    ensures { result ≡ safety_judged line (known low.now high.now stripes.now m) i }
+#[tactic(auto, unfolding(model::specs::Check::safety_judged))]
+pub fn safety_judged(line: usize, f: &PointFacts, i: Instruction) -> Judgement
+    requires { Limited i }
+    ensures { result ≡ safety_judged line f.now i }
 {
     match i {
-        Instruction::Stop => Judgement::Accepted,
-        Instruction::Setc { d: _, c: _ } => Judgement::Accepted,
-        Instruction::Copy { d: _, i: _ } => Judgement::Accepted,
-        Instruction::Addw { d: _, i: _, o: _ } => Judgement::Accepted,
-        Instruction::Subw { d: _, i: _, o: _ } => Judgement::Accepted,
-        Instruction::Mulw { d: _, i: _, o: _ } => Judgement::Accepted,
-        Instruction::Divf { d: _, i: _, o } => divisor_judged(line, low, high, stripes, m, o),
+        Instruction::Stop => Ok(()),
+        Instruction::Setc { .. } => Ok(()),
+        Instruction::Copy { .. } => Ok(()),
+        Instruction::Addw { .. } => Ok(()),
+        Instruction::Subw { .. } => Ok(()),
+        Instruction::Mulw { .. } => Ok(()),
+        Instruction::Divf { o, .. } => divisor_judged(line, f, o),
         Instruction::Load {
-            d: _,
             w,
             table,
             a,
             i,
             k,
-        } => access_judged(line, low, high, stripes, m, Access { table, w, a, i, k }),
-        Instruction::Stor { v: _, w, a, i, k } => {
+            ..
+        } => access_judged(line, f, Access { table, w, a, i, k }),
+        Instruction::Stor { w, a, i, k, .. } => {
             let table = Table::Results;
-            access_judged(line, low, high, stripes, m, Access { table, w, a, i, k })
+            access_judged(line, f, Access { table, w, a, i, k })
         }
-        Instruction::Jump { t: _ } => Judgement::Accepted,
-        Instruction::Bltu { i: _, t: _, o: _ } => Judgement::Accepted,
-        Instruction::Bequ { i: _, t: _, o: _ } => Judgement::Accepted,
-        Instruction::Divm {
-            q: _,
-            i: _,
-            r: _,
-            o,
-        } => divisor_judged(line, low, high, stripes, m, o),
+        Instruction::Jump { .. } => Ok(()),
+        Instruction::Bltu { .. } => Ok(()),
+        Instruction::Bequ { .. } => Ok(()),
+        Instruction::Divm { o, .. } => divisor_judged(line, f, o),
     }
 }

@@ -1,11 +1,10 @@
 -- A state as text: 17 lines of 40 bytes in a listing's own form, a JUMP to the point and then a SETC for each register, in order.
 -- Every line is judged by 2 to 5 and 19, as a line of a listing is; a text that is anything else is no state.
-use Rattle.std.specs.Prelude.{ℕ, zero, suc, ◌+◌, ◌<◌, ◌≤◌, ◌≡◌, Bool, true, false, ◌&&◌, not, cond, List, [], ◌∷◌, length, get_or, set, replicate, eqb}
+use Rattle.std.specs.Prelude.{ℕ, zero, suc, ◌+◌, ◌<◌, ◌≤◌, ◌≡◌, Bool, ◌&&◌, not, cond, List, [], ◌∷◌, Option, Some, None, length, get_or, set, replicate, eqb}
 use Rattle.model.specs.declared.text.Field.{Field}
 use Rattle.model.specs.declared.text.Field.TheVariants.{Blank, Number}
 use Rattle.model.specs.declared.text.Word.{Word}
 use Rattle.model.specs.declared.text.Word.TheVariants.{Setc as SETC, Jump as JUMP}
-use Rattle.model.specs.declared.text.FoundWord.TheVariants.{Known}
 use Rattle.model.specs.declared.machine.State.{State}
 use Rattle.model.specs.Limits.{registers, MAX, greatest_points, today}
 use Rattle.model.specs.Text.{space}
@@ -14,12 +13,6 @@ use Rattle.model.specs.Words.{text_of as word_text, begins}
 use Rattle.model.specs.Lines.{well_spelled, fields_in, F1, F4, F6, judged}
 use Rattle.model.specs.Listing.{line_at}
 use Rattle.model.specs.Writing.{with_line}
-use Rattle.saved.specs.declared.states.Target.{Target}
-use Rattle.saved.specs.declared.states.Target.TheVariants.{Point, NoPoint}
-use Rattle.saved.specs.declared.states.Setting.{Setting}
-use Rattle.saved.specs.declared.states.Setting.TheVariants.{Value, NoValue}
-use Rattle.saved.specs.declared.states.Reading.{Reading}
-use Rattle.saved.specs.declared.states.Saved.{Saved}
 
 -- the length of a state's text: 17 lines of 40 bytes
 abbrev pub state_bytes : ℕ
@@ -28,46 +21,40 @@ state_bytes = 680
 -- a line of this word: well spelled, and accepted with its fields
 unfoldable pub is_line_of : Word → List ℕ → Bool
 unfolding well_spelled begins judged fields_in
-is_line_of w l = well_spelled l && begins l (word_text w) && not (is_refused (judged today 0 (Known w) (fields_in l)))
+is_line_of w l = well_spelled l && begins l (word_text w) && not (is_refused (judged today 0 (Some w) (fields_in l)))
 
 -- the point that a line names: that of a JUMP
-unfoldable pub target_on : List ℕ → Target
+unfoldable pub target_on : List ℕ → Option ℕ
 unfolding is_line_of fields_in
-target_on l = cond (is_line_of JUMP l) (Point (F4 (fields_in l))) NoPoint
+target_on l = cond (is_line_of JUMP l) (Some (F4 (fields_in l))) None
 
 -- the number that a line gives register v: that of a SETC of this register
-unfoldable pub setting_on : List ℕ → ℕ → Setting
+unfoldable pub setting_on : List ℕ → ℕ → Option ℕ
 unfolding is_line_of fields_in
-setting_on l v = cond (is_line_of SETC l && eqb (F1 (fields_in l)) v) (Value (F6 (fields_in l))) NoValue
+setting_on l v = cond (is_line_of SETC l && eqb (F1 (fields_in l)) v) (Some (F6 (fields_in l))) None
 
--- one register more; from a line without its number on, the text is no state
-abbrev pub with_setting : Reading → ℕ → Setting → Reading
-with_setting r v NoValue = record { whole = false; registers = r.registers }
-with_setting r v (Value c) = record { whole = r.whole; registers = set r.registers v c }
-
--- no register yet
-abbrev pub no_registers : Reading
-no_registers = record { whole = true; registers = replicate registers 0 }
+-- one register more, where its line gives it a number and the lines before gave theirs
+abbrev pub with_setting : Option (List ℕ) → ℕ → Option ℕ → Option (List ℕ)
+with_setting None v c = None
+with_setting (Some rs) v None = None
+with_setting (Some rs) v (Some c) = Some (set rs v c)
 
 -- the first registers of a text; register v stands on line v + 2
-unfoldable pub registers_to : List ℕ → ℕ → Reading
+unfoldable pub registers_to : List ℕ → ℕ → Option (List ℕ)
 unfolding setting_on
-registers_to t zero = no_registers
+registers_to t zero = Some (replicate registers 0)
 registers_to t (suc v) = with_setting (registers_to t v) v (setting_on (line_at t (v + 1)) v)
 
--- the answer for a text that is no state
-abbrev pub no_state : Saved
-no_state = record { whole = false; state = record { point = 0; registers = replicate registers 0 } }
+-- the state of the point and the registers of a text
+abbrev pub state_from : Option ℕ → Option (List ℕ) → Option State
+state_from None r = None
+state_from (Some p) None = None
+state_from (Some p) (Some rs) = Some (record { point = p; registers = rs })
 
--- the answer for the point and the registers of a text
-abbrev pub saved_from : Target → Reading → Saved
-saved_from NoPoint r = no_state
-saved_from (Point p) r = record { whole = r.whole; state = record { point = p; registers = r.registers } }
-
--- the state of a text, or that it is none
-unfoldable pub saved_in : List ℕ → Saved
+-- the state of a text, where it is one
+unfoldable pub saved_in : List ℕ → Option State
 unfolding target_on registers_to
-saved_in t = cond (eqb (length t) state_bytes) (saved_from (target_on (line_at t 0)) (registers_to t registers)) no_state
+saved_in t = cond (eqb (length t) state_bytes) (state_from (target_on (line_at t 0)) (registers_to t registers)) None
 
 -- writing: the fields of the line that names the point
 abbrev pub point_fields : ℕ → List Field
@@ -106,4 +93,4 @@ pub record Savable (s : State) : Type 0 where
 
 -- the law: such a state is read back from its text
 abbrev pub StateReadBack : Type 0
-StateReadBack = (s : State) → Savable s → saved_in (text_of s) ≡ record { whole = true; state = s }
+StateReadBack = (s : State) → Savable s → saved_in (text_of s) ≡ Some s

@@ -1,56 +1,28 @@
 // A number of up to 32 bits as an argument.
-ghost use Rattle.std.specs.Prelude.{◌≡◌, ◌≤◌, length};
-ghost use Rattle.model.specs.Limits.{modulus};
-ghost use Rattle.saved.specs.Numbers.{with_digit, digits_to, number_in};
+ghost use Rattle.std.specs.Prelude.{◌≡◌};
+ghost use Rattle.saved.specs.Numbers.{with_digit, number_in};
 
-// An argument read as a number.
-#[derive(Clone, Copy)]
-pub enum Parsed {
-    Number(u32),
-    NoNumber,
-}
-
-// The number so far, above 32 bits where a byte is no digit or the number is too large.
-fn with_digit(n: u64, b: u8) -> u64
-    requires { n ≤ modulus }
-    ensures { (result ≡ with_digit n b) × (result ≤ modulus) }
+// A number with one digit more, where the byte is a digit and the number fits 32 bits.
+fn with_digit(n: u32, b: u8) -> Option<u32>
+    ensures { result ≡ with_digit n b }
 {
-    if b < b'0' {
-        return 4_294_967_296;
+    if !b.is_ascii_digit() {
+        return None;
     }
-    if b'9' < b {
-        return 4_294_967_296;
-    }
-    let m = n * 10 + (b - b'0') as u64;
-    if 4_294_967_295 < m {
-        return 4_294_967_296;
-    }
-    m
+    n.checked_mul(10)?.checked_add(u32::from(b - b'0'))
 }
 
-// The number that digits give.
-fn digits(text: &[u8]) -> u64
-    ensures { (result ≡ digits_to text.now (length text.now)) × (result ≤ modulus) }
-{
-    let mut n: u64 = 0;
-    let mut i = 0;
-    while i < text.len() {
-        n = with_digit(n, text[i]);
-        i += 1;
-    }
-    n
-}
-
-// A decimal number from 0 to 4,294,967,295, of digits alone.
-pub fn parse(text: &[u8]) -> Parsed
+// A decimal number from 0 to 4,294,967,295, of digits alone. The library's parse takes a sign too.
+#[tactic(auto, unfolding(crate::specs::Numbers::number_in, crate::specs::Numbers::digits_to))]
+pub fn parse(text: &[u8]) -> Option<u32>
     ensures { result ≡ number_in text.now }
 {
-    if text.len() == 0 {
-        return Parsed::NoNumber;
+    if text.is_empty() {
+        return None;
     }
-    let n = digits(text);
-    if 4_294_967_295 < n {
-        return Parsed::NoNumber;
+    let mut n = 0;
+    for b in text {
+        n = with_digit(n, *b)?;
     }
-    Parsed::Number(n as u32)
+    Some(n)
 }

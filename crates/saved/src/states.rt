@@ -1,47 +1,20 @@
 // A state as text: 17 lines like those of a listing, a JUMP to the point and then a SETC for each register, in order.
-ghost use Rattle.std.specs.Prelude.{◌≡◌, ◌+◌, ◌<◌, length};
+ghost use Rattle.std.specs.Prelude.{◌≡◌, ◌+◌, ◌*◌, ◌<◌, ◌≤◌, length};
 ghost use Rattle.model.specs.Limits as Limits;
+ghost use Rattle.model.specs.Limits.{line_bytes};
 ghost use Rattle.model.specs.Listing.{line_at};
-ghost use Rattle.saved.specs.States.{is_line_of, target_on, setting_on, with_setting, registers_to, saved_in, point_fields, register_fields, point_set, register_set, registers_set, text_of};
+ghost use Rattle.saved.specs.States.{is_line_of, target_on, setting_on, registers_to, saved_in, point_fields, register_fields, point_set, register_set, registers_set, text_of};
 
-use lines::fields::judge;
+use lines::judge::judge;
 use lines::line::{is_well_spelled, read_fields};
 use lines::words;
-use model::answers::is_refused;
-use model::limits::REGISTERS;
+use model::limits::{LINE_BYTES, REGISTERS};
 use model::machine::State;
-use model::text::{Field, FoundWord, Word};
+use model::text::{Field, Word};
 use writer::write_line;
 
-// The point that a line goes to.
-#[derive(Clone, Copy)]
-enum Target {
-    Point(usize),
-    NoPoint,
-}
-
-// The number that a line sets a register to.
-#[derive(Clone, Copy)]
-enum Setting {
-    Value(u32),
-    NoValue,
-}
-
-// The registers read so far, and whether every line so far is as it should be.
-#[derive(Clone, Copy)]
-struct Reading {
-    whole: bool,
-    registers: [u32; REGISTERS],
-}
-
-// A text read: whether it is a state, and the state.
-#[derive(Clone, Copy)]
-pub struct Saved {
-    pub whole: bool,
-    pub state: State,
-}
-
 // Whether a line is one of this word, well spelled and accepted with its fields.
+#[tactic(auto, unfolding(crate::specs::States::is_line_of))]
 fn is_line_of(w: Word, l: &[u8]) -> bool
     requires { length l.now ≡ 40 }
     ensures { result ≡ is_line_of w l.now }
@@ -52,130 +25,76 @@ fn is_line_of(w: Word, l: &[u8]) -> bool
     if !words::begins_with(l, w) {
         return false;
     }
-    !is_refused(judge(0, FoundWord::Known(w), read_fields(l)))
+    judge(0, Some(w), read_fields(l)).is_ok()
+}
+
+// Line k of a text, counted from 0.
+fn line_at(text: &[u8], k: usize) -> &[u8]
+    requires { k * line_bytes + line_bytes ≤ length text.now }
+    ensures value { result.now ≡ line_at text.now k }
+    ensures len { length result.now ≡ line_bytes }
+{
+    let a = k * LINE_BYTES;
+    &text[a..a + LINE_BYTES]
 }
 
 // The point that a line names.
-fn target_on(l: &[u8]) -> Target
+fn target_on(l: &[u8]) -> Option<usize>
     requires { length l.now ≡ 40 }
     ensures { result ≡ target_on l.now }
 {
-    if is_line_of(Word::Jump, l) {
-        let x = read_fields(l);
-        return Target::Point(x.fourth as usize);
+    if !is_line_of(Word::Jump, l) {
+        return None;
     }
-    Target::NoPoint
+    Some(read_fields(l).fourth as usize)
 }
 
 // The number that a line sets register v to.
-fn setting_on(l: &[u8], v: usize) -> Setting
+fn setting_on(l: &[u8], v: usize) -> Option<u32>
     requires { length l.now ≡ 40 }
     ensures { result ≡ setting_on l.now v }
 {
     if !is_line_of(Word::Setc, l) {
-        return Setting::NoValue;
+        return None;
     }
     let x = read_fields(l);
-    if x.first == v as u64 {
-        return Setting::Value(x.sixth as u32);
+    if x.first != v as u64 {
+        return None;
     }
-    Setting::NoValue
+    Some(x.sixth as u32)
 }
 
-// One register more.
-fn with_setting(r: Reading, v: usize, s: Setting) -> Reading
-    requires { v < Limits.registers }
-    ensures { result ≡ with_setting r v s }
-{
-    let mut registers = r.registers;
-    match s {
-        Setting::NoValue => Reading {
-            whole: false,
-            registers,
-        },
-        Setting::Value(c) => {
-            registers[v] = c;
-            Reading {
-                whole: r.whole,
-                registers,
-            }
-        }
-    }
-}
-
-// Register v, on line v + 2.
-fn with_register(text: &[u8], r: Reading, v: usize) -> Reading
-    requires { (length text.now ≡ 680) × (v < Limits.registers) }
-    ensures { result ≡ with_setting r v (setting_on (line_at text.now (v + 1)) v) }
-{
-    let k = v + 1;
-    let a = k * 40;
-    let e = a + 40;
-    let s = setting_on(&text[a..e], v);
-    with_setting(r, v, s)
-}
-
-// The registers, from lines 2 to 17.
-fn read_registers(text: &[u8]) -> Reading
+// The registers, from lines 2 to 17: register v stands on line v + 2.
+fn read_registers(text: &[u8]) -> Option<[u32; REGISTERS]>
     requires { length text.now ≡ 680 }
     ensures { result ≡ registers_to text.now Limits.registers }
 {
-    let mut r = Reading {
-        whole: true,
-        registers: [0; REGISTERS],
-    };
-    let mut v = 0;
-    while v < REGISTERS {
-        r = with_register(text, r, v);
-        v += 1;
+    let mut registers = [0; REGISTERS];
+    for v in 0..REGISTERS {
+        registers[v] = setting_on(line_at(text, v + 1), v)?;
     }
-    r
+    Some(registers)
 }
 
-// The state of a text, or that it is none.
-pub fn read_state(text: &[u8]) -> Saved
+// The state of a text, where it is one.
+pub fn read_state(text: &[u8]) -> Option<State>
     ensures { result ≡ saved_in text.now }
 {
-    let none = State {
-        point: 0,
-        registers: [0; REGISTERS],
-    };
     if text.len() != 680 {
-        return Saved {
-            whole: false,
-            state: none,
-        };
+        return None;
     }
-    let r = read_registers(text);
-    let registers = r.registers;
-    match target_on(&text[0..40]) {
-        Target::NoPoint => Saved {
-            whole: false,
-            state: none,
-        },
-        Target::Point(point) => {
-            let state = State { point, registers };
-            Saved {
-                whole: r.whole,
-                state,
-            }
-        }
-    }
+    let point = target_on(line_at(text, 0))?;
+    let registers = read_registers(text)?;
+    Some(State { point, registers })
 }
 
 // The fields of the line that names the point.
 fn point_fields(point: usize) -> [Field; 6]
     ensures { result ≡ point_fields point }
 {
-    let n = Field::Number(point as u64);
-    [
-        Field::Blank,
-        Field::Blank,
-        Field::Blank,
-        n,
-        Field::Blank,
-        Field::Blank,
-    ]
+    let mut fields = [Field::Blank; 6];
+    fields[3] = Field::Number(point as u64);
+    fields
 }
 
 // The fields of the line that sets register v.
@@ -183,7 +102,7 @@ fn register_fields(v: usize, c: u32) -> [Field; 6]
     ensures { result ≡ register_fields v c }
 {
     let d = Field::Number(v as u64);
-    let n = Field::Number(c as u64);
+    let n = Field::Number(u64::from(c));
     [d, Field::Blank, Field::Blank, Field::Blank, Field::Blank, n]
 }
 
@@ -200,10 +119,8 @@ fn set_registers(text: &mut [u8], registers: [u32; REGISTERS])
     requires { length text.old ≡ 680 }
     ensures { text.new ≡ registers_set text.old registers Limits.registers }
 {
-    let mut v = 0;
-    while v < REGISTERS {
+    for v in 0..REGISTERS {
         set_register(text, v, registers[v]);
-        v += 1;
     }
 }
 
@@ -219,9 +136,8 @@ fn set_point(text: &mut [u8], point: usize)
 pub fn write_state(s: State) -> [u8; 680]
     ensures { result ≡ text_of s }
 {
-    let mut text = [32u8; 680];
-    let registers = s.registers;
+    let mut text = [b' '; 680];
     set_point(&mut text, s.point);
-    set_registers(&mut text, registers);
+    set_registers(&mut text, s.registers);
     text
 }

@@ -1,16 +1,15 @@
 -- 15 to 17 for a state. Assumes nothing.
-use Prim.Native.Nat.{ℕ, ◌+◌, ◌≤◌, ◌<◌}
-use mathlib.Core.Bool.{Bool, true, false, ◌&&◌, cond}
+use Prim.Native.Nat.{ℕ, ◌≤◌, ◌<◌}
+use mathlib.Core.Bool.{Bool, true, false, cond}
 use mathlib.Core.List.{List, [], ◌∷◌}
-use mathlib.Core.Path.{◌≡◌, refl, sym, ap, ◌∙◌}
+use mathlib.Core.Path.{◌≡◌, refl, sym}
 use native.Mathlib.Omega.{arith}
-use lib.ListN.{length, get_or, take}
-use lib.Seq.{take-suc}
-use native.Mathlib.Numerals.{add-one}
+use lib.ListN.{length, get_or}
 use borrow.Author.Tests.{leb-true, lt-ltb, le-ltb}
 use Rattle.model.specs.Limits as Limits
 use Rattle.model.specs.declared.machine.State.{State}
-use Rattle.model.specs.declared.answers.Judgement.TheVariants.{Accepted, Refused as refused}
+use Rattle.model.specs.Types.{accepted}
+use Rattle.std.specs.Prelude.{Err}
 use Rattle.model.specs.declared.answers.Refusal.TheVariants.{TableLength, NoSuchPoint, ClaimsNotMet}
 use Rattle.model.specs.Answers.{◌and_then◌}
 use Rattle.model.specs.Limits.{greatest_size}
@@ -19,18 +18,12 @@ use Rattle.model.specs.Facts.{facts_of, meets}
 use Rattle.model.specs.Listing.{Point, point_exists}
 use Rattle.model.specs.Machine.{values_from}
 use Rattle.model.specs.Run.{meets_claims, size_fits, tables_fit, claims_met, state_judged}
-use Rattle.model.proofs.Lists.{every-snoc, every-at}
+use Rattle.model.proofs.Lists.{every-at}
 use Rattle.model.proofs.Reading.{both-accepted, test-passed}
+use Rattle.line_rows.specs.declared.rows.Row.{Row}
+use Rattle.rows_and_places.specs.declared.places.Place.{Place}
 use Rattle.rows_and_places.specs.Points.{point_in, points_in}
 use Rattle.rows_and_places.proofs.PlacedPoints.{points-count, points-at}
-
--- the first i sizes, tested
-pub sizes-none : (sizes : List ℕ) → true ≡ every size_fits (take 0 sizes)
-unfolding every
-sizes-none sizes = refl
-
-pub sizes-more : (sizes : List ℕ) (i : ℕ) → i < length sizes → (every size_fits (take i sizes) && size_fits (get_or sizes i 0)) ≡ every size_fits (take (i + 1) sizes)
-sizes-more sizes i h = every-snoc size_fits (take i sizes) (get_or sizes i 0) ∙ ap (every size_fits) (sym (take-suc sizes i 0 h) ∙ rw add-one)
 
 -- a size that is not too long
 pub size_small : (sizes : List ℕ) (i : ℕ) → every size_fits sizes ≡ true → i < length sizes → get_or sizes i 0 ≤ greatest_size
@@ -44,15 +37,15 @@ two-sizes (x ∷ (y ∷ [])) e = refl
 two-sizes (x ∷ (y ∷ (z ∷ l))) e = absurd (omega arith)
 
 -- over n points that are held
-module _ (rows at : List ℕ) (n : ℕ) (s : State) (sizes : List ℕ) where
-  pub tables-long : every size_fits sizes ≡ false → refused TableLength ≡ state_judged (points_in rows at n) s sizes
+module _ (rows : List Row) (at : List Place) (n : ℕ) (s : State) (sizes : List ℕ) where
+  pub tables-long : every size_fits sizes ≡ false → Err TableLength ≡ state_judged (points_in rows at n) s sizes
   tables-long e = sym (rw e)
 
   module _ (short : every size_fits sizes ≡ true) where
-    pub point-past : n ≤ s.point → refused NoSuchPoint ≡ state_judged (points_in rows at n) s sizes
+    pub point-past : n ≤ s.point → Err NoSuchPoint ≡ state_judged (points_in rows at n) s sizes
     point-past h = sym (rw (short, points-count rows at n, le-ltb s.point n h))
 
-    pub claims-tested : s.point < n → (vs : List ℕ) → vs ≡ values_from s.registers sizes → (b : Bool) → b ≡ meets vs (facts_of (point_in rows at s.point).claims) → cond b Accepted (refused ClaimsNotMet) ≡ state_judged (points_in rows at n) s sizes
+    pub claims-tested : s.point < n → (vs : List ℕ) → vs ≡ values_from s.registers sizes → (b : Bool) → b ≡ meets vs (facts_of (point_in rows at s.point).claims) → cond b accepted (Err ClaimsNotMet) ≡ state_judged (points_in rows at n) s sizes
     unfolding meets_claims
     claims-tested h vs v b e = sym (rw (short, points-count rows at n, lt-ltb s.point n h, points-at rows at n s.point h, ← v, ← e))
 
@@ -61,7 +54,7 @@ pub record Met (ps : List Point) (s : State) (sizes : List ℕ) : Type 0 where
   pub fit : every size_fits sizes ≡ true
   pub claims : meets_claims ps s sizes ≡ true
 
-pub met : (ps : List Point) (s : State) (sizes : List ℕ) → state_judged ps s sizes ≡ Accepted → Met ps s sizes
+pub met : (ps : List Point) (s : State) (sizes : List ℕ) → state_judged ps s sizes ≡ accepted → Met ps s sizes
 met ps s sizes e =
     let (first, claims) = both-accepted (tables_fit sizes and_then point_exists ps s.point) (claims_met ps s sizes) e in
     record {

@@ -3,8 +3,8 @@
 
 mod meets;
 
-ghost use Rattle.std.specs.Prelude.{◌≡◌, true, length};
-ghost use Rattle.model.specs.Limits.{variables};
+ghost use Rattle.std.specs.Prelude.{◌≡◌, true};
+ghost use Rattle.std.specs.List.{list_all};
 ghost use Rattle.model.specs.Lists.{every};
 ghost use Rattle.model.specs.Facts as Facts;
 ghost use Rattle.model.specs.Facts.{facts_of};
@@ -14,42 +14,35 @@ ghost use Rattle.rows_and_places.specs.Points.{Placed, Holds, point_in, points_i
 ghost use Rattle.state_tests.specs.States.{state};
 
 use crate::meets::meets;
-use facts::sizes::STRIPE_NUMBERS;
+use facts::point::PointFacts;
+use line_rows::rows::Row;
 use model::answers::{Judgement, Refusal};
 use model::limits::{GREATEST_SIZE, REGISTERS, TABLES, VARIABLES};
 use reader::point_facts::facts_at;
+use rows_and_places::places::Places;
 use steps::values::values_of;
 
 // Whether the values meet the claims of point p.
-fn claims_met<'a>(rows: &'a [u64], at: &'a [u16], p: usize, values: &'a [u32; VARIABLES]) -> bool
-    requires values_len { length values.now ≡ variables }
-    requires placed { Placed rows.now at.now p }
+fn claims_met(rows: &[Row], at: &Places, p: usize, values: &[u32; VARIABLES]) -> bool
+    requires { Placed rows.now at.now p }
     ensures { result ≡ Facts.meets values.now (facts_of (point_in rows.now at.now p).claims) }
 {
-    let mut low = [0u64; VARIABLES];
-    let mut high = [0u64; VARIABLES];
-    let mut stripes = [0u64; STRIPE_NUMBERS];
-    let n = facts_at(rows, at, p, &mut low, &mut high, &mut stripes);
-    meets(values, &low, &high, &stripes, n)
+    let mut facts = PointFacts::new();
+    facts_at(rows, at, p, &mut facts);
+    meets(values, &facts)
 }
 
 // Whether no table is too long.
 fn all_fit(sizes: [usize; TABLES]) -> bool
-    ensures { result ≡ every size_fits sizes }
+    ensures { result ≡ list_all size_fits sizes }
 {
-    let mut all = true;
-    let mut i = 0;
-    while i < TABLES {
-        all = all & (sizes[i] <= GREATEST_SIZE as usize);
-        i += 1;
-    }
-    all
+    sizes.iter().all(|n| *n <= GREATEST_SIZE as usize)
 }
 
 // 15 to 17 for a listing of so many points, the parts of a state, and tables of these sizes.
-pub fn state_judged<'a>(
-    rows: &'a [u64],
-    at: &'a [u16],
+pub fn state_judged(
+    rows: &[Row],
+    at: &Places,
     count: usize,
     point: usize,
     registers: [u32; REGISTERS],
@@ -59,16 +52,16 @@ pub fn state_judged<'a>(
     ensures { result ≡ Run.state_judged (points_in rows.now at.now count) (state point registers) sizes }
 {
     if !all_fit(sizes) {
-        return Judgement::Refused(Refusal::TableLength);
+        return Err(Refusal::TableLength);
     }
     if count <= point {
-        return Judgement::Refused(Refusal::NoSuchPoint);
+        return Err(Refusal::NoSuchPoint);
     }
     let values = values_of(registers, words(sizes));
     if claims_met(rows, at, point, &values) {
-        return Judgement::Accepted;
+        return Ok(());
     }
-    Judgement::Refused(Refusal::ClaimsNotMet)
+    Err(Refusal::ClaimsNotMet)
 }
 
 // The sizes of tables that are not too long, as values of variables.

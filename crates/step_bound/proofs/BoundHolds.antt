@@ -6,13 +6,10 @@ use mathlib.Core.List.{List, [], ◌∷◌}
 use native.Mathlib.Omega.{arith}
 use lib.ListN.{length}
 use Rattle.model.specs.declared.machine.State.{State}
-use Rattle.model.specs.declared.answers.Judgement.{Judgement}
-use Rattle.model.specs.declared.answers.Judgement.TheVariants.{Accepted, Refused as refused}
-use Rattle.model.specs.declared.answers.Verdict.TheVariants.{Passed}
-use Rattle.model.specs.declared.answers.StepBound.TheVariants.{Bounded}
+use Rattle.model.specs.Types.{Judgement, accepted}
+use Rattle.std.specs.Prelude.{Ok, Err, Option}
 use Rattle.model.specs.declared.answers.Report.{Report}
 use Rattle.model.specs.declared.answers.Report.TheVariants.{Stopped, Paused, Refused as refused_run}
-use Rattle.model.specs.declared.claims.Turning.{Turning}
 use Rattle.model.specs.Limits.{registers}
 use Rattle.model.specs.Answers.{◌and_then◌}
 use Rattle.model.specs.Listing.{Point, point_at, listing_of, points_of}
@@ -32,7 +29,7 @@ use Rattle.step_bound.proofs.RankFalls.{rank_of, rank_falls, first-exists, rank-
 
 -- ---- one run
 
-module _ (ps : List Point) (passes : Passes ps) (t : Turning) (covered : Covers ps t) (sizes : List ℕ) where
+module _ (ps : List Point) (passes : Passes ps) (t : Option ℕ) (covered : Covers ps t) (sizes : List ℕ) where
   -- the rank of a configuration
   abbrev left : Config → ℕ
   left c = rank_of ps t c.point c.registers
@@ -142,7 +139,7 @@ module _ (l : List ℕ) (sizes : List ℕ) where
       stops (j ∷ js) i r enough =
           ended-cases (points_of (listing_of l)) sizes s k (ran_on l s k) h.0 (λ e on. stays-stopped (ran_on l s k).outcome.state j js i on) (λ off spent. r.stops (omega arith))
 
-  module _ (passes : Passes (points_of (listing_of l))) (t : Turning) (covered : Covers (points_of (listing_of l)) t) where
+  module _ (passes : Passes (points_of (listing_of l))) (t : Option ℕ) (covered : Covers (points_of (listing_of l)) t) where
     -- every bound above the rank holds
     above-rank : (s : State) → length s.registers ≡ registers → meets_claims (points_of (listing_of l)) s sizes ≡ true → (ks : List Call) → AllLend sizes ks → Kept l sizes s ks
         → (b : ℕ) → rank_of (points_of (listing_of l)) t s.point s.registers < b → StopsWithin b l s ks
@@ -158,9 +155,9 @@ module _ (l : List ℕ) (sizes : List ℕ) where
 -- ---- the answer of the call
 
 -- a bound is answered where nothing turns the call back
-bounded : (ps : List Point) (j : Judgement) (b : ℕ) → bound_from ps j ≡ Bounded b → (j ≡ Accepted) × (bound_of ps ≡ b)
-bounded ps Accepted b e = (refl, cc)
-bounded ps (refused r) b e = let z : ◌≡◌ {A = ℕ} 0 1 = cc in absurd (omega arith)
+bounded : (ps : List Point) (j : Judgement) (b : ℕ) → bound_from ps j ≡ Ok b → (j ≡ accepted) × (bound_of ps ≡ b)
+bounded ps (Ok u) b e = (refl, cc)
+bounded ps (Err r) b e = let z : ◌≡◌ {A = ℕ} 0 1 = cc in absurd (omega arith)
 
 -- the promise of T-05
 pub bound-holds : BoundHolds
@@ -169,7 +166,7 @@ bound-holds l bound answer sizes s sixteen start e calls lends =
     let ps = points_of (listing_of l) in
     let (accepted, same) = bounded ps (listing_judged (listing_of l) and_then edges_covered ps (length ps)) bound answer in
     let (judged, edges) = both-accepted (listing_judged (listing_of l)) (edges_covered ps (length ps)) accepted in
-    let pass : check l ≡ Passed (length ps) = passed l judged in
+    let pass : check l ≡ Ok (length ps) = passed l judged in
     let passes : Passes ps = (checked l (length ps) pass).passes in
     let first : PointLimited (point_at ps 0) = all-at PointLimited ps _ 0 (first-exists ps sizes s sixteen start e) passes.formed.limited in
     let covered : Covers ps (counting ps) = covers ps edges first.claims in

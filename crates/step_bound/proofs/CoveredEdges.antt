@@ -12,9 +12,8 @@ use lib.Dec.{leb, eqb}
 use borrow.Author.Tests.{eqb-true, le-leb, not-true}
 use Rattle.model.specs.declared.claims.Claim.{Claim}
 use Rattle.model.specs.declared.claims.Claim.TheVariants.{Leas, Most, Strp, Turn}
-use Rattle.model.specs.declared.answers.Judgement.TheVariants.{Accepted}
-use Rattle.model.specs.declared.claims.Turning.{Turning}
-use Rattle.model.specs.declared.claims.Turning.TheVariants.{Absent as no_turn, Register as turning}
+use Rattle.model.specs.Types.{accepted}
+use Rattle.std.specs.Prelude.{Option, None, Some}
 use Rattle.model.specs.Limits.{registers}
 use Rattle.model.specs.Lists.{every, some, among}
 use Rattle.model.specs.Instructions.{targets, is_jump}
@@ -55,12 +54,12 @@ pub target-back : (ps : List Point) (p u : ℕ) → among u (targets (point_at p
 target-back ps p u i h = some-among (λ t. leb t p) u (targets (point_at ps p).instruction) i (le-leb u p h)
 
 -- a register, which what writes it only takes from
-abbrev pub Takes : List Point → Turning → Type 0
-Takes ps no_turn = Unit {0}
-Takes ps (turning r) = (r < registers) × (every (only_takes r) ps ≡ true)
+abbrev pub Takes : List Point → Option ℕ → Type 0
+Takes ps None = Unit {0}
+Takes ps (Some r) = (r < registers) × (every (only_takes r) ps ≡ true)
 
 -- the register that counts the rounds covers every backward edge; without one there is none
-pub record Covers (ps : List Point) (t : Turning) : Type 0 where
+pub record Covers (ps : List Point) (t : Option ℕ) : Type 0 where
   pub edges : (p : ℕ) → back ps p ≡ true → covered ps t p ≡ true
   pub takes : Takes ps t
 
@@ -71,7 +70,7 @@ record AtBack (ps : List Point) (r p : ℕ) : Type 0 where
   only : every (only_takes r) ps ≡ true
 
 -- the parts of the test
-at_back : (ps : List Point) (r p : ℕ) → covered ps (turning r) p ≡ true → AtBack ps r p
+at_back : (ps : List Point) (r p : ℕ) → covered ps (Some r) p ≡ true → AtBack ps r p
 unfolding covered
 at_back ps r p e =
     let jump = is_jump (point_at ps p).instruction in
@@ -84,14 +83,14 @@ at_back ps r p e =
     }
 
 -- each backward edge of the first n points is covered by the register of the TURN line
-each-covered : (ps : List Point) (n : ℕ) → edges_covered ps n ≡ Accepted → (p : ℕ) → p < n → back ps p ≡ true → covered ps (turn_of ps) p ≡ true
+each-covered : (ps : List Point) (n : ℕ) → edges_covered ps n ≡ accepted → (p : ℕ) → p < n → back ps p ≡ true → covered ps (turn_of ps) p ≡ true
 unfolding edges_covered
 each-covered ps zero e p h b = absurd (not-suc-le-zero h)
 each-covered ps (suc n) e p h b = go (ℕ_discrete p n) (each-covered ps n (both-accepted (edges_covered ps n) _ e).0 p)
   where
     go : Dec (p ≡ n) → (p < n → back ps p ≡ true → covered ps (turn_of ps) p ≡ true) → covered ps (turn_of ps) p ≡ true
     go (yes q) f =
-        let last : edge_covered ps p (point_at ps p) ≡ Accepted = rw q (both-accepted (edges_covered ps n) _ e).1 in
+        let last : edge_covered ps p (point_at ps p) ≡ accepted = rw q (both-accepted (edges_covered ps n) _ e).1 in
         test-passed (covered ps (turn_of ps) p) _ (rw b at last)
     go (no q) f = f (omega arith) b
 
@@ -123,7 +122,7 @@ one-back ps zero e = absurd (false≢true e)
 one-back ps (suc n) e = or_cases (any_goes_back ps n) _ e (one-back ps n) (λ b. (n, b))
 
 -- the register of a TURN within its limits
-turn-register : (cs : List Claim) (r : ℕ) → All ClaimLimited cs → turn_among cs ≡ turning r → r < registers
+turn-register : (cs : List Claim) (r : ℕ) → All ClaimLimited cs → turn_among cs ≡ Some r → r < registers
 turn-register [] r h e = let z : ◌≡◌ {A = ℕ} 0 1 = cc in absurd (omega arith)
 turn-register (Leas v n ∷ cs) r h e = let z : ◌≡◌ {A = ℕ} 0 1 = cc in absurd (omega arith)
 turn-register (Most v n ∷ cs) r h e = let z : ◌≡◌ {A = ℕ} 0 1 = cc in absurd (omega arith)
@@ -133,22 +132,22 @@ turn-register (Turn q ∷ cs) r h e = let same : q ≡ r = cc in rw same at h.0
 -- ---- the register that counts the rounds
 
 -- it is that of the TURN line, where something goes back
-abbrev pub counting : List Point → Turning
-counting ps = cond (any_goes_back ps (length ps)) (turn_of ps) no_turn
+abbrev pub counting : List Point → Option ℕ
+counting ps = cond (any_goes_back ps (length ps)) (turn_of ps) None
 
-module _ (ps : List Point) (accepted : edges_covered ps (length ps) ≡ Accepted) (limited : All ClaimLimited (point_at ps 0).claims) where
+module _ (ps : List Point) (all-covered : edges_covered ps (length ps) ≡ accepted) (limited : All ClaimLimited (point_at ps 0).claims) where
   -- one covered edge shows it for every instruction that writes the register
-  takes-only : (t : Turning) → turn_of ps ≡ t → (p : ℕ) → covered ps t p ≡ true → Takes ps t
-  takes-only no_turn e p c = tt
-  takes-only (turning r) e p c = (turn-register (point_at ps 0).claims r limited e, (at_back ps r p c).only)
+  takes-only : (t : Option ℕ) → turn_of ps ≡ t → (p : ℕ) → covered ps t p ≡ true → Takes ps t
+  takes-only None e p c = tt
+  takes-only (Some r) e p c = (turn-register (point_at ps 0).claims r limited e, (at_back ps r p c).only)
 
   -- it covers every backward edge
   pub covers : Covers ps (counting ps)
   covers = go (any_goes_back ps (length ps)) refl
     where
-      go : (b : Bool) → any_goes_back ps (length ps) ≡ b → Covers ps (cond b (turn_of ps) no_turn)
+      go : (b : Bool) → any_goes_back ps (length ps) ≡ b → Covers ps (cond b (turn_of ps) None)
       go true e =
-          let edges : (p : ℕ) → back ps p ≡ true → covered ps (turn_of ps) p ≡ true = λ p b. each-covered ps (length ps) accepted p (back_inside ps p b) b in
+          let edges : (p : ℕ) → back ps p ≡ true → covered ps (turn_of ps) p ≡ true = λ p b. each-covered ps (length ps) all-covered p (back_inside ps p b) b in
           let one = one-back ps (length ps) e in
           record { edges = edges; takes = takes-only (turn_of ps) refl one.0 (edges one.0 one.1) }
       go false e = record { edges = λ p b. absurd (false≢true (sym (none-back ps (length ps) e p (back_inside ps p b)) ∙ b)); takes = tt }
@@ -158,7 +157,7 @@ pub bound-rounds : (ps : List Point) → bound_of ps ≡ length ps * rounds_of p
 unfolding bound_of
 bound-rounds ps = go (any_goes_back ps (length ps))
   where
-    go : (b : Bool) → cond b (length ps * rounds_of ps (turn_of ps)) (length ps) ≡ length ps * rounds_of ps (cond b (turn_of ps) no_turn)
+    go : (b : Bool) → cond b (length ps * rounds_of ps (turn_of ps)) (length ps) ≡ length ps * rounds_of ps (cond b (turn_of ps) None)
     go true = refl
     go false = omega arith
 
@@ -174,23 +173,23 @@ module _ (ps : List Point) where
       go true e = absurd (h e)
 
   -- without a register none has one
-  pub none-covered : Covers ps no_turn → (p : ℕ) → back ps p ≡ false
+  pub none-covered : Covers ps None → (p : ℕ) → back ps p ≡ false
   unfolding covered
   none-covered c p = no-back p (λ b. false≢true (c.edges p b))
 
   -- the next one after a point that does not write the register
-  pub after-unwritten : (r : ℕ) → Covers ps (turning r) → (p : ℕ) → writes_to r (point_at ps p) ≡ false → back ps (p + 1) ≡ false
+  pub after-unwritten : (r : ℕ) → Covers ps (Some r) → (p : ℕ) → writes_to r (point_at ps p) ≡ false → back ps (p + 1) ≡ false
   after-unwritten r c p e = no-back (p + 1) (λ b. let w = (at_back ps r (p + 1) (c.edges (p + 1) b)).before in false≢true (sym e ∙ (rw add-one at w)))
 
   -- the first
-  pub first-unwritten : (t : Turning) → Covers ps t → back ps 0 ≡ false
-  first-unwritten no_turn c = none-covered c 0
-  first-unwritten (turning r) c = no-back 0 (λ b. false≢true (at_back ps r 0 (c.edges 0 b)).before)
+  pub first-unwritten : (t : Option ℕ) → Covers ps t → back ps 0 ≡ false
+  first-unwritten None c = none-covered c 0
+  first-unwritten (Some r) c = no-back 0 (λ b. false≢true (at_back ps r 0 (c.edges 0 b)).before)
 
   -- a target
-  pub untargeted : (t : Turning) → Covers ps t → (p u : ℕ) → p < length ps → among u (targets (point_at ps p).instruction) ≡ true → back ps u ≡ false
-  untargeted no_turn c p u h i = none-covered c u
-  untargeted (turning r) c p u h i =
+  pub untargeted : (t : Option ℕ) → Covers ps t → (p u : ℕ) → p < length ps → among u (targets (point_at ps p).instruction) ≡ true → back ps u ≡ false
+  untargeted None c p u h i = none-covered c u
+  untargeted (Some r) c p u h i =
       no-back u
       (λ b.
       let target : is_target ps u ≡ true = some_at (λ (q : Point). among u (targets q.instruction)) ps _ p h i in

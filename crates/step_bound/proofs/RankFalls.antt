@@ -13,8 +13,7 @@ use Rattle.model.specs.declared.machine.Operand.TheVariants.{Variable as variabl
 use Rattle.model.specs.declared.machine.Instruction.{Instruction}
 use Rattle.model.specs.declared.machine.Instruction.TheVariants.{Stop, Setc, Copy, Addw, Subw, Mulw, Divf, Load, Stor, Jump, Bltu, Bequ, Divm}
 use Rattle.model.specs.declared.machine.State.{State}
-use Rattle.model.specs.declared.claims.Turning.{Turning}
-use Rattle.model.specs.declared.claims.Turning.TheVariants.{Absent as no_turn, Register as turning}
+use Rattle.std.specs.Prelude.{Option, None, Some}
 use Rattle.model.specs.Limits.{registers, variables, MAX}
 use Rattle.model.specs.Lists.{every_below, among}
 use Rattle.model.specs.Instructions.{writes, targets, goes_on}
@@ -32,12 +31,12 @@ use Rattle.step_bound.proofs.Rank.{rank, forward, counted, backward, start-rank}
 use Rattle.step_bound.proofs.CoveredEdges.{back, target-back, Covers, none-covered, after-unwritten, first-unwritten, untargeted}
 
 -- the rounds left, by the register that counts them
-abbrev pub rounds : Turning → List ℕ → ℕ
-rounds no_turn rs = 0
-rounds (turning r) rs = get_or rs r 0
+abbrev pub rounds : Option ℕ → List ℕ → ℕ
+rounds None rs = 0
+rounds (Some r) rs = get_or rs r 0
 
 -- the rank of a point and the registers
-abbrev pub rank_of : List Point → Turning → ℕ → List ℕ → ℕ
+abbrev pub rank_of : List Point → Option ℕ → ℕ → List ℕ → ℕ
 rank_of ps t p rs = rank (length ps) (back ps) p (rounds t rs)
 
 -- an instruction that takes from a register, and what it takes
@@ -76,7 +75,7 @@ module _ (ps : List Point) (sizes : List ℕ) where
   -- a step from c to d
   module _ (c d : Config) (g : Good ps sizes c) (h : Good ps sizes d) (e : step_at ps c ≡ next d) where
     -- the rounds stay, and the next point has no backward edge: the step leads there or to a target
-    rounds-stay : (t : Turning) → Covers ps t → back ps (c.point + 1) ≡ false → (x : ℕ) → rank (length ps) (back ps) d.point x < rank (length ps) (back ps) c.point x
+    rounds-stay : (t : Option ℕ) → Covers ps t → back ps (c.point + 1) ≡ false → (x : ℕ) → rank (length ps) (back ps) d.point x < rank (length ps) (back ps) c.point x
     rounds-stay t covers on x =
         or_cases (among d.point (targets (instruction_at ps c))) _ led
         (λ i. go i (dec_le d.point c.point))
@@ -92,7 +91,7 @@ module _ (ps : List Point) (sizes : List ℕ) where
         go i (no k) = forward (length ps) (back ps) c.point d.point x (omega arith) h.exists (untargeted ps t covers c.point d.point g.exists i)
 
     -- the register is written: it falls, and the next point follows
-    written-falls : (r : ℕ) → Covers ps (turning r) → writes_to r (point_at ps c.point) ≡ true → rank_of ps (turning r) d.point d.registers < rank_of ps (turning r) c.point c.registers
+    written-falls : (r : ℕ) → Covers ps (Some r) → writes_to r (point_at ps c.point) ≡ true → rank_of ps (Some r) d.point d.registers < rank_of ps (Some r) c.point c.registers
     unfolding step_of
     written-falls r covers w =
         let q = point_at ps c.point in
@@ -108,15 +107,15 @@ module _ (ps : List Point) (sizes : List ℕ) where
         rw (on, new, ← now) (counted (length ps) (back ps) c.point x (difference x k) (omega (arith, h.exists, on)) less)
 
     -- by the register, or without one, the rank falls
-    pub rank_falls : (t : Turning) → Covers ps t → rank_of ps t d.point d.registers < rank_of ps t c.point c.registers
-    rank_falls no_turn covers = rounds-stay no_turn covers (none-covered ps covers (c.point + 1)) 0
-    rank_falls (turning r) covers = go (writes_to r (point_at ps c.point)) refl
+    pub rank_falls : (t : Option ℕ) → Covers ps t → rank_of ps t d.point d.registers < rank_of ps t c.point c.registers
+    rank_falls None covers = rounds-stay None covers (none-covered ps covers (c.point + 1)) 0
+    rank_falls (Some r) covers = go (writes_to r (point_at ps c.point)) refl
       where
-        go : (b : Bool) → writes_to r (point_at ps c.point) ≡ b → rank_of ps (turning r) d.point d.registers < rank_of ps (turning r) c.point c.registers
+        go : (b : Bool) → writes_to r (point_at ps c.point) ≡ b → rank_of ps (Some r) d.point d.registers < rank_of ps (Some r) c.point c.registers
         go true w = written-falls r covers w
         go false w =
             let left : (r : ℕ) → among r (writes (instruction_at ps c)) ≡ false → get_or d.registers r 0 ≡ get_or c.registers r 0 = rw e at (unwritten-kept (instruction_at ps c) c) in
-            rw (left r w) (rounds-stay (turning r) covers (after-unwritten ps r covers c.point w) (get_or c.registers r 0))
+            rw (left r w) (rounds-stay (Some r) covers (after-unwritten ps r covers c.point w) (get_or c.registers r 0))
 
 -- a state at point 0 that meets the claims there
 module _ (ps : List Point) (sizes : List ℕ) (s : State) (sixteen : length s.registers ≡ registers) (start : s.point ≡ 0) (e : meets_claims ps s sizes ≡ true) where
@@ -126,10 +125,10 @@ module _ (ps : List Point) (sizes : List ℕ) (s : State) (sixteen : length s.re
   first-exists = let inside = ltb-true s.point (length ps) (and_left (ltb s.point (length ps)) _ e) in omega arith
 
   -- the high end there leaves room for the rounds
-  few-rounds : (t : Turning) → Covers ps t → rounds t s.registers < rounds_of ps t
+  few-rounds : (t : Option ℕ) → Covers ps t → rounds t s.registers < rounds_of ps t
   unfolding meets_claims meets
-  few-rounds no_turn h = omega arith
-  few-rounds (turning r) h =
+  few-rounds None h = omega arith
+  few-rounds (Some r) h =
       let vs = values_from s.registers sizes in
       let rs = (facts_of (point_at ps s.point).claims).ranges in
       let inside : ℕ → Bool = λ v. in_range (value_at vs v) (range_of rs v) in
@@ -142,5 +141,5 @@ module _ (ps : List Point) (sizes : List ℕ) (s : State) (sixteen : length s.re
       omega arith
 
   -- there the rank is below the bound
-  pub rank-starts : (t : Turning) → Covers ps t → rank_of ps t s.point s.registers < length ps * rounds_of ps t
+  pub rank-starts : (t : Option ℕ) → Covers ps t → rank_of ps t s.point s.registers < length ps * rounds_of ps t
   rank-starts t h = rw start (start-rank (length ps) (back ps) _ _ first-exists (few-rounds t h) (first-unwritten ps t h))

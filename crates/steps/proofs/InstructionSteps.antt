@@ -1,5 +1,5 @@
 -- What each instruction makes of the values of all variables is the machine's step. Assumes nothing.
-use Rattle.std.proofs.Common.{◌≡◌, ℕ, ◌+◌, ◌<◌, ◌≤◌, cond, eqb, ltb, List, [], ◌∷◌, length, take, set, sym, refl, ap, ◌∙◌, subst, arith, length-append, length-take, eq-eqb, ne_eqb, le-leb}
+use Rattle.std.proofs.Common.{◌≡◌, ℕ, ◌+◌, ◌<◌, ◌≤◌, Bool, cond, eqb, ltb, List, [], ◌∷◌, length, take, set, sym, refl, ap, ◌∙◌, subst, arith, length-append, length-take, eq-eqb, ne_eqb, le-leb}
 use native.Mathlib.Decide.{ℕ_discrete, dec_le}
 use lib.Seq.{take-set-lt, set-append_left}
 use borrow.Author.Tests.{lt-leb}
@@ -13,7 +13,7 @@ use Rattle.model.specs.Limits.{registers, tables}
 use Rattle.model.specs.Facts.{value_at}
 use Rattle.model.specs.Machine.{Tables, lent, table_of, sizes_of, Config, values_from, operand_at, bytes_of, read_bytes, write_bytes, sum, difference, product, quotient, nearest_quotient, remainder, address, wrote, wrote_both, went, stored, next, error_state, inside, step_of, at, settled}
 use Rattle.model.proofs.Values.{write-long}
-use Rattle.steps.specs.Stepped.{config, ValuesOver, Steppable, Stepped}
+use Rattle.steps.specs.Stepped.{config, ValuesOver, Written, Steppable, Stepped}
 
 -- a table is no longer than both may be
 pub table-short : (b : Table) (ts rs : List ℕ) (n : ℕ) → length ts < n → length rs < n → length (table_of b (lent ts rs)) < n
@@ -43,8 +43,9 @@ module _ (p : ℕ) (vs : List ℕ) (t : Tables) (over : ValuesOver vs t) where
         ap (λ (l : List ℕ). set l d x) over ∙ set-append_left (take registers vs) _ d x (omega (arith, length-take registers vs))
         ∙ ap (λ (l : List ℕ). values_from l (sizes_of t)) (sym (take-set-lt registers vs d x in-d))
 
-    put-stepped : (i : Instruction) → step_of i (config p vs t) ≡ next (wrote (config p vs t) d x) → Stepped i p vs t (p + 1) (set vs d x) t
-    put-stepped i e = record { led = sym (ap (settled (config p vs t)) e ∙ ap at (sym put-config)); values = put-over }
+    written-stepped : (i : Instruction) → step_of i (config p vs t) ≡ next (wrote (config p vs t) d x)
+        → {y p' : ℕ} {vs' : List ℕ} → Written p d y vs p' vs' → y ≡ x → Stepped i p vs t p' vs' t
+    written-stepped i e w f = rw (w.point, w.values, f) (record { led = sym (ap (settled (config p vs t)) e ∙ ap at (sym put-config)); values = put-over })
 
   -- another point
   went-stepped : (i : Instruction) (q : ℕ) → step_of i (config p vs t) ≡ next (went (config p vs t) q) → Stepped i p vs t q vs t
@@ -54,25 +55,25 @@ module _ (p : ℕ) (vs : List ℕ) (t : Tables) (over : ValuesOver vs t) where
   unfolding step_of
   stop-stepped = record { led = refl; values = over }
 
-  pub setc-stepped : (d x : ℕ) → d < registers → Stepped (Setc d x) p vs t (p + 1) (set vs d x) t
+  pub setc-stepped : (d x : ℕ) → d < registers → {y p' : ℕ} {vs' : List ℕ} → Written p d y vs p' vs' → y ≡ x → Stepped (Setc d x) p vs t p' vs' t
   unfolding step_of
-  setc-stepped d x h = put-stepped d x h (Setc d x) refl
+  setc-stepped d x h = written-stepped d _ h (Setc d x) refl
 
-  pub copy-stepped : (d i : ℕ) → d < registers → Stepped (Copy d i) p vs t (p + 1) (set vs d (value_at vs i)) t
+  pub copy-stepped : (d i : ℕ) → d < registers → {y p' : ℕ} {vs' : List ℕ} → Written p d y vs p' vs' → y ≡ (value_at vs i) → Stepped (Copy d i) p vs t p' vs' t
   unfolding step_of
-  copy-stepped d i h = put-stepped d _ h (Copy d i) (ap (λ (us : List ℕ). next (wrote (config p vs t) d (value_at us i))) (sym over))
+  copy-stepped d i h = written-stepped d _ h (Copy d i) (ap (λ (us : List ℕ). next (wrote (config p vs t) d (value_at us i))) (sym over))
 
-  pub addw-stepped : (d i : ℕ) (o : Operand) → d < registers → Stepped (Addw d i o) p vs t (p + 1) (set vs d (sum (value_at vs i) (operand_at vs o))) t
+  pub addw-stepped : (d i : ℕ) (o : Operand) → d < registers → {y p' : ℕ} {vs' : List ℕ} → Written p d y vs p' vs' → y ≡ (sum (value_at vs i) (operand_at vs o)) → Stepped (Addw d i o) p vs t p' vs' t
   unfolding step_of
-  addw-stepped d i o h = put-stepped d _ h (Addw d i o) (ap (λ (us : List ℕ). next (wrote (config p vs t) d (sum (value_at us i) (operand_at us o)))) (sym over))
+  addw-stepped d i o h = written-stepped d _ h (Addw d i o) (ap (λ (us : List ℕ). next (wrote (config p vs t) d (sum (value_at us i) (operand_at us o)))) (sym over))
 
-  pub subw-stepped : (d i : ℕ) (o : Operand) → d < registers → Stepped (Subw d i o) p vs t (p + 1) (set vs d (difference (value_at vs i) (operand_at vs o))) t
+  pub subw-stepped : (d i : ℕ) (o : Operand) → d < registers → {y p' : ℕ} {vs' : List ℕ} → Written p d y vs p' vs' → y ≡ (difference (value_at vs i) (operand_at vs o)) → Stepped (Subw d i o) p vs t p' vs' t
   unfolding step_of
-  subw-stepped d i o h = put-stepped d _ h (Subw d i o) (ap (λ (us : List ℕ). next (wrote (config p vs t) d (difference (value_at us i) (operand_at us o)))) (sym over))
+  subw-stepped d i o h = written-stepped d _ h (Subw d i o) (ap (λ (us : List ℕ). next (wrote (config p vs t) d (difference (value_at us i) (operand_at us o)))) (sym over))
 
-  pub mulw-stepped : (d i : ℕ) (o : Operand) → d < registers → Stepped (Mulw d i o) p vs t (p + 1) (set vs d (product (value_at vs i) (operand_at vs o))) t
+  pub mulw-stepped : (d i : ℕ) (o : Operand) → d < registers → {y p' : ℕ} {vs' : List ℕ} → Written p d y vs p' vs' → y ≡ (product (value_at vs i) (operand_at vs o)) → Stepped (Mulw d i o) p vs t p' vs' t
   unfolding step_of
-  mulw-stepped d i o h = put-stepped d _ h (Mulw d i o) (ap (λ (us : List ℕ). next (wrote (config p vs t) d (product (value_at us i) (operand_at us o)))) (sym over))
+  mulw-stepped d i o h = written-stepped d _ h (Mulw d i o) (ap (λ (us : List ℕ). next (wrote (config p vs t) d (product (value_at us i) (operand_at us o)))) (sym over))
 
   -- DIVF
   module _ (d i : ℕ) (o : Operand) where
@@ -83,8 +84,9 @@ module _ (p : ℕ) (vs : List ℕ) (t : Tables) (over : ValuesOver vs t) where
     pub divisor : (step_of (Divf d i o) (config p vs t) ≡ error_state → ⊥) → 0 < operand_at vs o
     divisor safe = positive (operand_at vs o) _ (λ e. safe (divf-step ∙ e))
 
-    pub divf-stepped : d < registers → 0 < operand_at vs o → Stepped (Divf d i o) p vs t (p + 1) (set vs d (nearest_quotient (value_at vs i) (operand_at vs o))) t
-    divf-stepped h pos = put-stepped d _ h (Divf d i o) (divf-step ∙ divided (operand_at vs o) _ pos)
+    pub divf-stepped : d < registers → 0 < operand_at vs o
+        → {y p' : ℕ} {vs' : List ℕ} → Written p d y vs p' vs' → y ≡ nearest_quotient (value_at vs i) (operand_at vs o) → Stepped (Divf d i o) p vs t p' vs' t
+    divf-stepped h pos = written-stepped d _ h (Divf d i o) (divf-step ∙ divided (operand_at vs o) _ pos)
 
   -- an access outside its table is an error
   inside-room : (a : ℕ) (w : Width) (l : List ℕ) (c : Config) → (inside a w l c ≡ error_state → ⊥) → a + bytes_of w ≤ length l
@@ -103,8 +105,9 @@ module _ (p : ℕ) (vs : List ℕ) (t : Tables) (over : ValuesOver vs t) where
     load-room safe = inside-room (address a (value_at vs i) k) w (table_of b t) _ (λ e. safe (load_step ∙ e))
 
     pub load-stepped : d < registers → address a (value_at vs i) k + bytes_of w ≤ length (table_of b t)
-        → Stepped (Load d w b a i k) p vs t (p + 1) (set vs d (read_bytes (bytes_of w) (table_of b t) (address a (value_at vs i) k))) t
-    load-stepped h room = put-stepped d _ h (Load d w b a i k) (load_step ∙ rw (le-leb _ _ room))
+        → {y p' : ℕ} {vs' : List ℕ} → Written p d y vs p' vs' → y ≡ read_bytes (bytes_of w) (table_of b t) (address a (value_at vs i) k)
+        → Stepped (Load d w b a i k) p vs t p' vs' t
+    load-stepped h room = written-stepped d _ h (Load d w b a i k) (load_step ∙ rw (le-leb _ _ room))
 
   module _ (v : ℕ) (w : Width) (a i k : ℕ) where
     stor-step : step_of (Stor v w a i k) (config p vs t) ≡ inside (address a (value_at vs i) k) w t.results (stored (config p vs t) (write_bytes (bytes_of w) t.results (address a (value_at vs i) k) (value_at vs v)))
@@ -127,13 +130,18 @@ module _ (p : ℕ) (vs : List ℕ) (t : Tables) (over : ValuesOver vs t) where
   unfolding step_of
   jump-stepped u = went-stepped (Jump u) u refl
 
-  pub bltu-stepped : (i u : ℕ) (o : Operand) → Stepped (Bltu i u o) p vs t (cond (ltb (value_at vs i) (operand_at vs o)) u (p + 1)) vs t
-  unfolding step_of
-  bltu-stepped i u o = went-stepped (Bltu i u o) _ (ap (λ (us : List ℕ). next (went (config p vs t) (cond (ltb (value_at us i) (operand_at us o)) u (p + 1)))) (sym over))
+  -- the target where a test holds, else the next point
+  branch-stepped : (i : Instruction) (u : ℕ) {x y : Bool} → step_of i (config p vs t) ≡ next (went (config p vs t) (cond x u (p + 1)))
+      → y ≡ x → {q : ℕ} → q ≡ cond y u (p + 1) → Stepped i p vs t q vs t
+  branch-stepped i u e f g = rw (g, f) (went-stepped i _ e)
 
-  pub bequ-stepped : (i u : ℕ) (o : Operand) → Stepped (Bequ i u o) p vs t (cond (eqb (value_at vs i) (operand_at vs o)) u (p + 1)) vs t
+  pub bltu-stepped : (i u : ℕ) (o : Operand) {x : Bool} → x ≡ ltb (value_at vs i) (operand_at vs o) → {q : ℕ} → q ≡ cond x u (p + 1) → Stepped (Bltu i u o) p vs t q vs t
   unfolding step_of
-  bequ-stepped i u o = went-stepped (Bequ i u o) _ (ap (λ (us : List ℕ). next (went (config p vs t) (cond (eqb (value_at us i) (operand_at us o)) u (p + 1)))) (sym over))
+  bltu-stepped i u o = branch-stepped (Bltu i u o) u (ap (λ (us : List ℕ). next (went (config p vs t) (cond (ltb (value_at us i) (operand_at us o)) u (p + 1)))) (sym over))
+
+  pub bequ-stepped : (i u : ℕ) (o : Operand) {x : Bool} → x ≡ eqb (value_at vs i) (operand_at vs o) → {q : ℕ} → q ≡ cond x u (p + 1) → Stepped (Bequ i u o) p vs t q vs t
+  unfolding step_of
+  bequ-stepped i u o = branch-stepped (Bequ i u o) u (ap (λ (us : List ℕ). next (went (config p vs t) (cond (eqb (value_at us i) (operand_at us o)) u (p + 1)))) (sym over))
 
 -- DIVM, which writes two registers
 module _ (p : ℕ) (vs : List ℕ) (t : Tables) (over : ValuesOver vs t) (q i r : ℕ) (o : Operand) where

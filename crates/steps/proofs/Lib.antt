@@ -1,3 +1,1 @@
-pub mod FilledArrays
-pub mod WrittenValue
 pub mod InstructionSteps

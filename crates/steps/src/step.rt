@@ -1,5 +1,5 @@
 // One step of the machine, in place. No address and no divisor is tested: a passed listing makes no step that is an error.
-ghost use Rattle.std.specs.Prelude.{◌≡◌, ◌+◌, ◌<◌, ◌≤◌, length, if◌then◌else◌, nat_eq, nat_lt};
+ghost use Rattle.std.specs.Prelude.{◌≡◌, ℕ, ◌+◌, ◌<◌, ◌≤◌, Bool, length, if◌then◌else◌};
 ghost use Rattle.model.specs.Limits.{greatest_points, registers, variables};
 ghost use Rattle.model.specs.Facts.{value_at};
 ghost use Rattle.model.specs.Machine as Machine;
@@ -9,10 +9,8 @@ ghost use Rattle.steps.specs.Stepped.{Written, WrittenBoth, Steppable, Stepped};
 
 use crate::values::{operand_value, put};
 use model::limits::VARIABLES;
-use model::machine::{Access, Instruction, Operand, Table, Width};
-use operations::arithmetic::{
-    address, difference, nearest_quotient_u32, product, quotient, remainder,
-};
+use model::machine::{Access, Instruction, Operand, Table};
+use operations::arithmetic::{address, nearest_quotient_u32};
 use operations::bytes::{load, store};
 
 // COPY: the value of a variable, written.
@@ -24,47 +22,22 @@ fn copy(values: &mut [u32; VARIABLES], point: usize, d: usize, i: usize) -> usiz
     put(values, d, x, point)
 }
 
-// ADDW: the sum, written.
-fn add(values: &mut [u32; VARIABLES], point: usize, d: usize, i: usize, o: Operand) -> usize
-    requires { (point < greatest_points) × (d < registers) × (i < variables) × OperandLimited o }
-    ensures { Written point d (sum (value_at values.old i) (operand_at values.old o)) values.old result values.new }
+// ADDW, SUBW, MULW and DIVF: what an operation makes of a variable and an operand, written.
+fn compute<F: FnOnce(u32, u32) -> u32>(
+    values: &mut [u32; VARIABLES],
+    point: usize,
+    d: usize,
+    i: usize,
+    o: Operand,
+    operation: F,
+) -> usize
+    requires limited { (point < greatest_points) × (d < registers) × (i < variables) × OperandLimited o }
+    requires callable { F.pre operation (value_at values.old i) (operand_at values.old o) }
+    ensures { (z : ℕ) × F.post operation (value_at values.old i) (operand_at values.old o) z × Written point d z values.old result values.new }
 {
     let x = values[i];
     let y = operand_value(values, o);
-    let z = std::num::wrapping_add_u32(x, y);
-    put(values, d, z, point)
-}
-
-// SUBW: the difference, written.
-fn subtract(values: &mut [u32; VARIABLES], point: usize, d: usize, i: usize, o: Operand) -> usize
-    requires { (point < greatest_points) × (d < registers) × (i < variables) × OperandLimited o }
-    ensures { Written point d (Machine.difference (value_at values.old i) (operand_at values.old o)) values.old result values.new }
-{
-    let x = values[i];
-    let y = operand_value(values, o);
-    let z = difference(x, y);
-    put(values, d, z, point)
-}
-
-// MULW: the product, written.
-fn multiply(values: &mut [u32; VARIABLES], point: usize, d: usize, i: usize, o: Operand) -> usize
-    requires { (point < greatest_points) × (d < registers) × (i < variables) × OperandLimited o }
-    ensures { Written point d (Machine.product (value_at values.old i) (operand_at values.old o)) values.old result values.new }
-{
-    let x = values[i];
-    let y = operand_value(values, o);
-    let z = product(x, y);
-    put(values, d, z, point)
-}
-
-// DIVF: the nearest quotient, written. The divisor is above 0.
-fn divide(values: &mut [u32; VARIABLES], point: usize, d: usize, i: usize, o: Operand) -> usize
-    requires { (point < greatest_points) × (d < registers) × (i < variables) × OperandLimited o × (0 < operand_at values.old o) }
-    ensures { Written point d (Machine.nearest_quotient (value_at values.old i) (operand_at values.old o)) values.old result values.new }
-{
-    let x = values[i];
-    let y = operand_value(values, o);
-    let z = nearest_quotient_u32(x, y);
+    let z = operation(x, y);
     put(values, d, z, point)
 }
 
@@ -83,8 +56,8 @@ fn divide_whole(
 {
     let x = values[i];
     let y = operand_value(values, o);
-    let whole = quotient(x, y);
-    let rest = remainder(x, y);
+    let whole = x / y;
+    let rest = x % y;
     values[q] = whole;
     put(values, r, rest, point)
 }
@@ -126,39 +99,33 @@ fn store_from(
     point: usize,
     results: &mut [u8],
     v: usize,
-    w: Width,
-    a: usize,
-    i: usize,
-    k: usize,
+    access: Access,
 ) -> usize
-    requires { (point < greatest_points) × (v < variables) × (i < variables) × (Machine.address a (value_at values.now i) k + bytes_of w ≤ length results.old) }
-    ensures { (result ≡ point + 1) × (results.new ≡ write_bytes (bytes_of w) results.old (Machine.address a (value_at values.now i) k) (value_at values.now v)) }
+    requires { (point < greatest_points) × (v < variables) × (access.i < variables) × (Machine.address access.a (value_at values.now access.i) access.k + bytes_of access.w ≤ length results.old) }
+    ensures { (result ≡ point + 1) × (results.new ≡ write_bytes (bytes_of access.w) results.old (Machine.address access.a (value_at values.now access.i) access.k) (value_at values.now v)) }
 {
-    let x = values[i];
-    let at = address(a, x, k);
-    let z = values[v];
-    store(results, at, w, z);
+    let x = values[access.i];
+    let at = address(access.a, x, access.k);
+    store(results, at, access.w, values[v]);
     point + 1
 }
 
-// Where BLTU goes.
-fn if_less(values: &[u32; VARIABLES], point: usize, i: usize, t: usize, o: Operand) -> usize
-    requires { (point < greatest_points) × (i < variables) × OperandLimited o }
-    ensures { result ≡ (if nat_lt (value_at values.now i) (operand_at values.now o) then t else point + 1) }
+// BLTU and BEQU: the target where a variable and an operand pass the test, else the next point.
+fn branch<F: FnOnce(u32, u32) -> bool>(
+    values: &[u32; VARIABLES],
+    point: usize,
+    i: usize,
+    t: usize,
+    o: Operand,
+    test: F,
+) -> usize
+    requires limited { (point < greatest_points) × (i < variables) × OperandLimited o }
+    requires callable { F.pre test (value_at values.now i) (operand_at values.now o) }
+    ensures { (b : Bool) × F.post test (value_at values.now i) (operand_at values.now o) b × (result ≡ (if b then t else point + 1)) }
 {
     let x = values[i];
     let y = operand_value(values, o);
-    if x < y { t } else { point + 1 }
-}
-
-// Where BEQU goes.
-fn if_equal(values: &[u32; VARIABLES], point: usize, i: usize, t: usize, o: Operand) -> usize
-    requires { (point < greatest_points) × (i < variables) × OperandLimited o }
-    ensures { result ≡ (if nat_eq (value_at values.now i) (operand_at values.now o) then t else point + 1) }
-{
-    let x = values[i];
-    let y = operand_value(values, o);
-    if x == y { t } else { point + 1 }
+    if test(x, y) { t } else { point + 1 }
 }
 
 // One step: the point that it leads to. The values and the results are changed in place.
@@ -176,10 +143,10 @@ pub fn step(
         Instruction::Stop => point,
         Instruction::Setc { d, c } => put(values, d, c, point),
         Instruction::Copy { d, i } => copy(values, point, d, i),
-        Instruction::Addw { d, i, o } => add(values, point, d, i, o),
-        Instruction::Subw { d, i, o } => subtract(values, point, d, i, o),
-        Instruction::Mulw { d, i, o } => multiply(values, point, d, i, o),
-        Instruction::Divf { d, i, o } => divide(values, point, d, i, o),
+        Instruction::Addw { d, i, o } => compute(values, point, d, i, o, |x, y| x.wrapping_add(y)),
+        Instruction::Subw { d, i, o } => compute(values, point, d, i, o, |x, y| x.wrapping_sub(y)),
+        Instruction::Mulw { d, i, o } => compute(values, point, d, i, o, |x, y| x.wrapping_mul(y)),
+        Instruction::Divf { d, i, o } => compute(values, point, d, i, o, nearest_quotient_u32),
         Instruction::Load {
             d,
             w,
@@ -195,10 +162,22 @@ pub fn step(
             d,
             Access { table, w, a, i, k },
         ),
-        Instruction::Stor { v, w, a, i, k } => store_from(values, point, results, v, w, a, i, k),
+        Instruction::Stor { v, w, a, i, k } => store_from(
+            values,
+            point,
+            results,
+            v,
+            Access {
+                table: Table::Results,
+                w,
+                a,
+                i,
+                k,
+            },
+        ),
         Instruction::Jump { t } => t,
-        Instruction::Bltu { i, t, o } => if_less(values, point, i, t, o),
-        Instruction::Bequ { i, t, o } => if_equal(values, point, i, t, o),
+        Instruction::Bltu { i, t, o } => branch(values, point, i, t, o, |x, y| x < y),
+        Instruction::Bequ { i, t, o } => branch(values, point, i, t, o, |x, y| x == y),
         Instruction::Divm { q, i, r, o } => divide_whole(values, point, q, i, r, o),
     }
 }

@@ -9,29 +9,13 @@ ghost use Rattle.steps.specs.Stepped.{Written};
 use model::limits::{REGISTERS, TABLES, VARIABLES};
 use model::machine::Operand;
 
-// The registers at the front of the values of all variables, and 0 for every size.
-fn with_registers(registers: [u32; REGISTERS]) -> [u32; VARIABLES]
-    ensures { take Limits.registers result ≡ registers }
-{
-    let mut values = [0; VARIABLES];
-    let mut i = 0;
-    while i < REGISTERS {
-        values[i] = registers[i];
-        i += 1;
-    }
-    values
-}
-
 // The values of all variables, from the registers and the sizes of the tables.
 pub fn values_of(registers: [u32; REGISTERS], sizes: [u32; TABLES]) -> [u32; VARIABLES]
     ensures { result ≡ values_from registers sizes }
 {
-    let mut values = with_registers(registers);
-    let mut i = 0;
-    while i < TABLES {
-        values[REGISTERS + i] = sizes[i];
-        i += 1;
-    }
+    let mut values = [0; VARIABLES];
+    values[..REGISTERS].copy_from_slice(&registers);
+    values[REGISTERS..].copy_from_slice(&sizes);
     values
 }
 
@@ -40,11 +24,7 @@ pub fn registers_of(values: [u32; VARIABLES]) -> [u32; REGISTERS]
     ensures { result ≡ take Limits.registers values }
 {
     let mut registers = [0; REGISTERS];
-    let mut i = 0;
-    while i < REGISTERS {
-        registers[i] = values[i];
-        i += 1;
-    }
+    registers.copy_from_slice(&values[..REGISTERS]);
     registers
 }
 

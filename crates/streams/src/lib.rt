@@ -1,86 +1,73 @@
 // What the programs read, what they write to standard error, and the arguments that they were given.
 #![tactic(auto)]
 
-ghost use Rattle.std.specs.Prelude.{◌≡◌, ◌<◌, ◌≤◌, length, take, IfOk, OnErr, pos, negsuc};
+ghost use Rattle.std.specs.Prelude.{◌≡◌, ◌<◌, Ok, Err, MatchResult, nat_lt};
 
 mod system_words;
+pub mod text;
 
 use std::env::{Env, FillError};
 use std::io;
 use std::io::{Error, Read, Stderr};
 use system_words::words_of;
+use text::Text;
 
 // Writes a text to standard error. Where that fails there is nowhere to say it.
 pub fn write(to: Stderr, text: &[u8]) {
-    match to.write_all(text) {
-        Ok(()) => {}
-        Err(_) => {}
+    let _ = to.write_all(text);
+}
+
+// Writes texts to standard error, one after another.
+pub fn write_all(to: Stderr, texts: &[&[u8]]) {
+    for text in texts {
+        write(to, text);
     }
 }
 
 // Writes a number in decimal to standard error.
 pub fn write_number(to: Stderr, number: u64) {
-    match to.print(number) {
-        Ok(()) => {}
-        Err(_) => {}
-    }
+    let _ = to.print(number);
 }
 
 // Writes to standard error what failed, a colon and the system's words for it.
 pub fn write_failure(to: Stderr, what: &[u8], error: Error) {
-    write(to, what);
-    write(to, b": ");
-    let told = words_of(error);
-    write(to, told.text());
-    write(to, b"\n");
+    write_all(to, &[what, b": ", words_of(error).as_bytes(), b"\n"]);
 }
 
-// What a read answered as a number: 0 where the input ended, above 0 where there was more, below 0 where it failed.
-pub fn read_answer(read: &io::Result<usize>) -> isize
-    ensures ended { IfOk read.now (λ n. n ≡ 0 → result ≡ pos 0) }
-    ensures more { IfOk read.now (λ n. 0 < n → result ≡ pos 1) }
-    ensures failed { OnErr read.now (result ≡ negsuc 0) }
+// Whether there is more, by what a read of one byte answered.
+pub fn is_more(read: io::Result<usize>) -> io::Result<bool>
+    ensures { MatchResult read (λ n. result ≡ Ok (nat_lt 0 n)) (λ e. result ≡ Err e) }
 {
-    match read {
-        Ok(0) => 0,
-        Ok(_) => 1,
-        Err(_) => -1,
-    }
+    read.map(|n| 0 < n)
 }
 
-// Reads until the buffer is full, the input ends or a read fails, and answers how many bytes it put at the start of the buffer.
-pub fn read_full<R: Read>(from: &mut R, buffer: &mut [u8]) -> usize
-    ensures upper_bound { (result ≤ length buffer.new) × (result ≡ length (take result buffer.new)) }
-{
-    let mut done = 0;
-    while done < buffer.len() {
-        match from.read(&mut buffer[done..]) {
-            Ok(0) => return done,
-            Ok(n) => done += n,
-            Err(_) => return done,
+// Puts behind a text what a reader gives, until the text is full, the input ends or a read fails.
+pub fn read_full<const N: usize, R: Read>(from: &mut R, text: &mut Text<N>) {
+    while text.length < N {
+        let done = text.length;
+        let bytes = &mut text.bytes[..];
+        match from.read(&mut bytes[done..]) {
+            Ok(0) | Err(_) => break,
+            Ok(n) => text.length = done + n,
         }
     }
-    done
 }
 
-// Puts an argument at the start of the buffer, and answers its length: 0 where it is missing or longer than the buffer.
-pub fn argument(rt: HostRuntime, i: usize, buffer: &mut [u8]) -> usize
-    ensures upper_bound { (result ≤ length buffer.new) × (result ≡ length (take result buffer.new)) }
-{
-    match rt.arg(i, buffer) {
-        Ok(n) => n,
-        Err(_) => 0,
+// An argument; a text without bytes where it is missing or longer than N.
+pub fn argument<const N: usize>(rt: HostRuntime, i: usize) -> Text<N> {
+    let mut text = Text::empty();
+    if let Ok(n) = rt.arg(i, &mut text.bytes) {
+        text.length = n;
     }
+    text
 }
 
 // How many arguments the program was started with, its own name among them.
 pub fn argument_count(rt: HostRuntime) -> usize {
-    let mut buffer = [0u8; 1];
+    let mut buffer = [0; 1];
     for i in 0..usize::MAX {
-        match rt.arg(i, &mut buffer) {
-            Ok(_) => {}
-            Err(FillError::TooLong) => {}
-            Err(FillError::NotPresent) => return i,
+        if let Err(FillError::NotPresent) = rt.arg(i, &mut buffer) {
+            return i;
         }
     }
     usize::MAX

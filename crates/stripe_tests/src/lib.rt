@@ -5,30 +5,29 @@ ghost use Rattle.std.specs.Prelude.{◌≡◌, ◌||◌};
 ghost use Rattle.model.specs.Limits.{today};
 ghost use Rattle.model.specs.Transfer as Model;
 ghost use Rattle.model.specs.Transfer.{bound_in_limits};
-ghost use Rattle.facts.specs.Sizes.{greatest_part};
-ghost use Rattle.facts.specs.Known.{Small};
+ghost use Rattle.facts.specs.Sizes.{Small};
 
 use model::claims::Stripe;
 use model::limits::GREATEST_BOUND;
 
 // Whether the stripe names d.
-pub fn names(s: Stripe, d: u8) -> bool
-    ensures { result ≡ Model.names d s }
+pub fn names(s: &Stripe, d: usize) -> bool
+    ensures { result ≡ Model.names d s.now }
 {
-    (s.x == d) | (s.y == d) | (s.z == d)
+    (usize::from(s.x) == d) | (usize::from(s.y) == d) | (usize::from(s.z) == d)
 }
 
 // Whether a stripe names one of two variables at least.
-pub fn names_either(s: Stripe, d: u8, e: u8) -> bool
-    ensures { result ≡ (Model.names d s || Model.names e s) }
+pub fn names_either(s: &Stripe, d: usize, e: usize) -> bool
+    ensures { result ≡ (Model.names d s.now || Model.names e s.now) }
 {
     names(s, d) | names(s, e)
 }
 
 // Whether the bound lies within its limits.
-pub fn bound_in_limits(s: Stripe) -> bool
-    requires { Small greatest_part s }
-    ensures { result ≡ bound_in_limits today s }
+pub fn bound_in_limits(s: &Stripe) -> bool
+    requires { Small s.now }
+    ensures { result ≡ bound_in_limits today s.now }
 {
     (s.plus <= s.minus + GREATEST_BOUND) & (s.minus <= s.plus + GREATEST_BOUND)
 }

@@ -1,36 +1,44 @@
--- The edge of a row, and what it says of the point that the row holds. Assumes nothing.
+-- Whether one of some points goes back. Assumes nothing.
 use mathlib.Core.Path.{◌≡◌, refl, sym, ap, ◌∙◌}
-use mathlib.Core.Bool.{true, false, ◌||◌}
+use mathlib.Core.Bool.{Bool, true, false, ◌||◌}
 use mathlib.Core.List.{List}
-use Prim.Native.Nat.{ℕ, suc, ◌<◌}
-use lib.Dec.{leb}
-use Rattle.model.specs.Lists.{some}
-use Rattle.model.specs.Instructions.{targets, has_target}
-use Rattle.model.specs.Listing.{Point}
+use Prim.Native.Nat.{ℕ, zero, suc, ◌+◌, ◌-◌, ◌<◌}
+use native.Mathlib.Nat.{add-zero}
+use native.Mathlib.Omega.{arith}
+use Rattle.std.proofs.Math.Bool.{or-true}
+use Rattle.model.specs.Listing.{point_at}
 use Rattle.model.specs.Bound.{goes_back, any_goes_back}
 use Rattle.line_rows.specs.declared.rows.Row.{Row}
-use Rattle.decoded.specs.Decoded.{instruction_from}
-use Rattle.decoded.proofs.RowInstructions.{own-target, none_named}
+use Rattle.rows_and_places.specs.declared.places.Place.{Place}
 use Rattle.rows_and_places.specs.Points.{point_in, points_in}
 use Rattle.rows_and_places.proofs.PlacedPoints.{points-at}
-use Rattle.register_writes.proofs.RowWrites.{or-none}
 
-module _ (p : ℕ) (r : Row) where
-  pub back-own : has_target (instruction_from r) ≡ true → leb r.fourth p ≡ goes_back p (instruction_from r)
-  unfolding some
-  back-own e = or-none (leb r.fourth p) ∙ sym (ap (some (λ (t : ℕ). leb t p)) (own-target r e))
+module _ (rows : List Row) (at : List Place) (n : ℕ) where
+  abbrev any : ℕ → Bool
+  any p = any_goes_back (points_in rows at n) p
 
-  pub back_none : has_target (instruction_from r) ≡ false → false ≡ goes_back p (instruction_from r)
-  unfolding some
-  back_none e = sym (ap (some (λ (t : ℕ). leb t p)) (none_named (targets (instruction_from r)) e))
-
-module _ (rows at : List ℕ) (n : ℕ) where
   -- before the first point
-  pub any_none : false ≡ any_goes_back (points_in rows at n) 0
+  pub any_none : false ≡ any 0
   unfolding any_goes_back
   any_none = refl
 
-  -- one point more
-  pub any_next : (p : ℕ) → p < n → any_goes_back (points_in rows at n) (suc p) ≡ (any_goes_back (points_in rows at n) p || goes_back p (point_in rows at p).instruction)
+  any_next : (p : ℕ) → any (suc p) ≡ (any p || goes_back p (point_at (points_in rows at n) p).instruction)
   unfolding any_goes_back
-  any_next p h = ap (λ (q : Point). any_goes_back (points_in rows at n) p || goes_back p q.instruction) (points-at rows at n p h)
+  any_next p = refl
+
+  -- one point more that does not
+  pub none-next : (p : ℕ) → p < n → false ≡ any p → false ≡ goes_back p (point_in rows at p).instruction → false ≡ any (suc p)
+  none-next p h e f = sym (rw (any_next p, points-at rows at n p h, ← e, ← f))
+
+  -- one that does
+  any_stays : (p : ℕ) → any p ≡ true → (d : ℕ) → any (p + d) ≡ true
+  any_stays p e zero = rw (add-zero p) e
+  any_stays p e (suc d) =
+      let more : p + suc d ≡ suc (p + d) = omega arith in
+      rw (more, any_next (p + d), any_stays p e d)
+
+  pub any_found : (p : ℕ) → p < n → true ≡ goes_back p (point_in rows at p).instruction → true ≡ any n
+  any_found p h e =
+      let whole : suc p + (n - suc p) ≡ n = omega arith in
+      let own : any (suc p) ≡ true = rw (any_next p, points-at rows at n p h, ← e) (or-true (any p)) in
+      sym (ap any (sym whole) ∙ any_stays (suc p) own (n - suc p))

@@ -7,26 +7,22 @@ ghost use Rattle.rows_and_places.specs.Points.{point_in, points_in, AllPlaced};
 ghost use Rattle.ways_back.specs.Covering.{Covering};
 
 use crate::back::goes_back;
-use decoded::{has_target, instruction_from};
 use line_rows::rows::Row;
 use model::answers::{Judgement, Refusal};
 use model::limits::GREATEST_POINTS;
-use reader::whole::{and_then, goes_on};
+use model::text::Word;
 use register_writes::writers::point_writes;
-use rows_and_places::places::{instruction_row, line_of};
+use rows_and_places::places::{Places, instruction_row, line_of};
 
 // Whether the instruction of a row is a JUMP.
-fn is_jump(r: Row) -> bool
-    ensures { result ≡ is_jump (instruction_from r) }
+fn is_jump(r: &Row) -> bool
+    ensures { result ≡ is_jump (instruction_from r.now) }
 {
-    if goes_on(instruction_from(r)) {
-        return false;
-    }
-    has_target(r)
+    matches!(r.word, Word::Jump)
 }
 
 // Whether the point just before point p, of n, writes the register.
-fn written_before<'a>(rows: &'a [u64], at: &'a [u16], n: usize, p: usize, register: usize) -> bool
+fn written_before(rows: &[Row], at: &Places, n: usize, p: usize, register: usize) -> bool
     requires { AllPlaced rows.now at.now n × (p < n) }
     ensures { result ≡ written_before (points_in rows.now at.now n) register p }
 {
@@ -36,76 +32,71 @@ fn written_before<'a>(rows: &'a [u64], at: &'a [u16], n: usize, p: usize, regist
     point_writes(rows, at, p - 1, register)
 }
 
-// Whether a backward edge of point p, of n, is covered: taken says whether the register is only taken from, the marks which points are targets.
-fn is_covered<'a>(
-    rows: &'a [u64],
-    at: &'a [u16],
+// Whether a backward edge of point p, of n, is covered, where the marks say which points are targets. The TURN register is there if it is only taken from.
+fn is_covered(
+    rows: &[Row],
+    at: &Places,
     n: usize,
-    marks: &'a [u8; GREATEST_POINTS],
-    taken: bool,
-    register: usize,
+    marks: &[bool; GREATEST_POINTS],
+    register: Option<usize>,
     p: usize,
 ) -> bool
     requires all_placed { AllPlaced rows.now at.now n × (p < n) }
-    requires covering { Covering (points_in rows.now at.now n) marks.now taken register }
+    requires covering { Covering (points_in rows.now at.now n) marks.now register }
     ensures { result ≡ covered (points_in rows.now at.now n) (turn_of (points_in rows.now at.now n)) p }
 {
-    if !taken {
-        return false;
+    match register {
+        None => false,
+        Some(r) => {
+            if !is_jump(instruction_row(rows, at, p)) {
+                return false;
+            }
+            if marks[p] {
+                return false;
+            }
+            written_before(rows, at, n, p, r)
+        }
     }
-    if !is_jump(instruction_row(rows, at, p)) {
-        return false;
-    }
-    if marks[p] == 1 {
-        return false;
-    }
-    written_before(rows, at, n, p, register)
 }
 
 // 20 for point p, of n.
-fn edge_covered<'a>(
-    rows: &'a [u64],
-    at: &'a [u16],
+fn edge_covered(
+    rows: &[Row],
+    at: &Places,
     n: usize,
-    marks: &'a [u8; GREATEST_POINTS],
-    taken: bool,
-    register: usize,
+    marks: &[bool; GREATEST_POINTS],
+    register: Option<usize>,
     p: usize,
 ) -> Judgement
     requires all_placed { AllPlaced rows.now at.now n × (p < n) }
-    requires covering { Covering (points_in rows.now at.now n) marks.now taken register }
+    requires covering { Covering (points_in rows.now at.now n) marks.now register }
     ensures { result ≡ edge_covered (points_in rows.now at.now n) p (point_in rows.now at.now p) }
 {
     if !goes_back(p, instruction_row(rows, at, p)) {
-        return Judgement::Accepted;
+        return Ok(());
     }
-    if is_covered(rows, at, n, marks, taken, register, p) {
-        return Judgement::Accepted;
+    if is_covered(rows, at, n, marks, register, p) {
+        return Ok(());
     }
-    Judgement::Refused(Refusal::UncoveredEdge {
+    Err(Refusal::UncoveredEdge {
         line: line_of(at, p),
     })
 }
 
 // 20 for n points, in order.
-pub(crate) fn edges_covered<'a>(
-    rows: &'a [u64],
-    at: &'a [u16],
+pub(crate) fn edges_covered(
+    rows: &[Row],
+    at: &Places,
     n: usize,
-    marks: &'a [u8; GREATEST_POINTS],
-    taken: bool,
-    register: usize,
+    marks: &[bool; GREATEST_POINTS],
+    register: Option<usize>,
 ) -> Judgement
     requires all_placed { AllPlaced rows.now at.now n }
-    requires covering { Covering (points_in rows.now at.now n) marks.now taken register }
+    requires covering { Covering (points_in rows.now at.now n) marks.now register }
     ensures { result ≡ edges_covered (points_in rows.now at.now n) n }
 {
-    let mut j = Judgement::Accepted;
-    let mut p = 0;
-    while p < n {
-        let one = edge_covered(rows, at, n, marks, taken, register, p);
-        j = and_then(j, one);
-        p += 1;
+    for p in 0..n {
+        edge_covered(rows, at, n, marks, register, p)?;
     }
-    j
+    Ok(())
 }

@@ -2,7 +2,7 @@
 use Prim.Native.Nat.{ℕ, ◌<◌}
 use native.Mathlib.Omega.{arith}
 use mathlib.Core.Path.{◌≡◌, refl}
-use mathlib.Core.Bool.{Bool, true, false, false≢true, cond}
+use mathlib.Core.Bool.{Bool, true, false, false≢true}
 use mathlib.Core.List.{List}
 use lib.Dec.{eqb}
 use borrow.Author.Tests.{eqb-false}
@@ -17,7 +17,7 @@ use Rattle.model.specs.Text.{value_in}
 use Rattle.model.specs.Words.{fields_of, shaped}
 use Rattle.model.specs.Lines.{field_at, kind_at, in_shape}
 use Rattle.model.proofs.Tests.{every-below}
-use Rattle.columns.specs.Kept.{kept_plain, kept_signed, kept_at}
+use Rattle.columns.specs.Kept.{kept, kept_at}
 
 -- a kind that asks for no minus
 abbrev pub unsigned : Kind → Bool
@@ -61,11 +61,11 @@ blank-or-number P (Plain c) Misshapen u e b n = absurd (false≢true e)
 blank-or-number P (Optional c) Misshapen u e b n = absurd (false≢true e)
 blank-or-number P (Signed c) Misshapen u e b n = absurd (false≢true e)
 
-signed-number : (f : Field) → (kept_signed f).number ≡ value_in f
-signed-number Blank = refl
-signed-number (Number v) = refl
-signed-number (Negative v) = refl
-signed-number Misshapen = refl
+number-signed : (f : Field) → (kept true f).number ≡ value_in f
+number-signed Blank = refl
+number-signed (Number v) = refl
+number-signed (Negative v) = refl
+number-signed Misshapen = refl
 
 module _ (w : Word) (fs : List Field) (e : in_shape w fs ≡ true) where
   pub field-shaped : (j : ℕ) → j < 6 → shaped (kind_at w j) (field_at fs j) ≡ true
@@ -73,13 +73,13 @@ module _ (w : Word) (fs : List Field) (e : in_shape w fs ≡ true) where
   field-shaped j h = every-below (λ (i : ℕ). shaped (kind_at w i) (field_at fs i)) 6 e j h
 
   -- of F1 to F5
-  plain-kept : (j : ℕ) → j < 5 → (kept_plain (field_at fs j)).number ≡ value_in (field_at fs j)
+  plain-kept : (j : ℕ) → j < 5 → (kept false (field_at fs j)).number ≡ value_in (field_at fs j)
   plain-kept j h =
-      blank-or-number (λ (f : Field). (kept_plain f).number ≡ value_in f) (kind_at w j) (field_at fs j) (every-below (λ (i : ℕ). unsigned (kind_at w i)) 5 (unsigned-kinds w) j h) (field-shaped j (omega arith)) refl (λ v. refl)
+      blank-or-number (λ (f : Field). (kept false f).number ≡ value_in f) (kind_at w j) (field_at fs j) (every-below (λ (i : ℕ). unsigned (kind_at w i)) 5 (unsigned-kinds w) j h) (field-shaped j (omega arith)) refl (λ v. refl)
 
   pub number-kept : (j : ℕ) → j < 6 → (kept_at fs j).number ≡ value_in (field_at fs j)
   number-kept j h = go (eqb j 5) refl
     where
-      go : (b : Bool) → eqb j 5 ≡ b → (cond b (kept_signed (field_at fs j)) (kept_plain (field_at fs j))).number ≡ value_in (field_at fs j)
-      go true q = signed-number (field_at fs j)
+      go : (b : Bool) → eqb j 5 ≡ b → (kept b (field_at fs j)).number ≡ value_in (field_at fs j)
+      go true q = number-signed (field_at fs j)
       go false q = let n = eqb-false j 5 q in plain-kept j (omega (arith, n))

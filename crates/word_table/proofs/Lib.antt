@@ -1,3 +1,2 @@
 pub mod AskedRows
 pub mod KeptNumbers
-pub mod SharedByWords

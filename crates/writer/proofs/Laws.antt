@@ -13,12 +13,10 @@ use borrow.Author.Tests.{eqb-true}
 use Rattle.model.specs.declared.text.Field.{Field}
 use Rattle.model.specs.declared.text.Word.{Word}
 use Rattle.model.specs.declared.text.Word.TheVariants.{Stop, Setc, Copy, Addw, Subw, Mulw, Divf, Load, Stor, Jump, Bltu, Bequ, Leas, Most, Strp, Divm, Turn}
-use Rattle.model.specs.declared.text.FoundWord.{FoundWord}
-use Rattle.model.specs.declared.text.FoundWord.TheVariants.{Unknown, Known}
+use Rattle.std.specs.Prelude.{Option, Ok, None, Some, Err}
 use Rattle.model.specs.declared.answers.Refusal.TheVariants.{LineBytes}
 use Rattle.model.specs.declared.claims.Line.TheVariants.{Refused as refused_line}
-use Rattle.model.specs.declared.answers.Judgement.{Judgement}
-use Rattle.model.specs.declared.answers.Judgement.TheVariants.{Accepted, Refused as refused}
+use Rattle.model.specs.Types.{Judgement, accepted}
 use Rattle.model.specs.Limits.{line_bytes, today}
 use Rattle.model.specs.Text.{line_end}
 use Rattle.model.specs.Answers.{is_refused, ◌and_then◌}
@@ -30,7 +28,7 @@ use Rattle.model.specs.Writing.{word_of, room_for, line_judged, with_line, listi
 use Rattle.model.proofs.Tests.{and_right, every-below}
 use Rattle.model.proofs.Reading.{both-accepted}
 use Rattle.written_line.specs.Columns.{Fits}
-use Rattle.lines.proofs.AcceptedFields.{accepted}
+use Rattle.lines.proofs.AcceptedFields.{fields-accepted}
 use Rattle.writer.proofs.LineJudged.{word-four, found, room-bounds}
 use Rattle.writer.proofs.FieldsFit.{accepted-fits, fits-taken}
 use Rattle.written_line.proofs.LineFields.{begins-with, word_same, length-line, line_word, line-fields, line-again, line-alike}
@@ -96,18 +94,18 @@ module _ (s : List ℕ) (k : ℕ) (t : List ℕ) (fs : List Field) (h : k * line
 
 -- ---- the judgement
 -- accepted fields fit
-pub fields_fit : (place : ℕ) (w : Word) (fs : List Field) → judged today place (Known w) fs ≡ Accepted → (j : ℕ) → j < 6 → Fits (width_of j) (field_at fs j)
+pub fields_fit : (place : ℕ) (w : Word) (fs : List Field) → judged today place (Some w) fs ≡ accepted → (j : ℕ) → j < 6 → Fits (width_of j) (field_at fs j)
 unfolding in_shape in_limits
 fields_fit place w fs e j h =
-    let (shape, limits, differ) = accepted place w fs e in
+    let (shape, limits, differ) = fields-accepted place w fs e in
     accepted-fits w j h (F1 fs) (F5 fs) (field_at fs j)
     (every-below (λ (i : ℕ). shaped (kind_at w i) (field_at fs i)) 6 shape j h)
     (every-below (λ (i : ℕ). allowed today (kind_at w i) (F1 fs) (F5 fs) (field_at fs i)) 6 limits j h)
 
 -- the place does not matter
-judged-anywhere : (place place' : ℕ) (w : Word) (fs : List Field) → judged today place (Known w) fs ≡ Accepted → judged today place' (Known w) fs ≡ Accepted
+judged-anywhere : (place place' : ℕ) (w : Word) (fs : List Field) → judged today place (Some w) fs ≡ accepted → judged today place' (Some w) fs ≡ accepted
 unfolding judged
-judged-anywhere place place' w fs e = let (shape, limits, differ) = accepted place w fs e in rw (shape, limits, differ)
+judged-anywhere place place' w fs e = let (shape, limits, differ) = fields-accepted place w fs e in rw (shape, limits, differ)
 
 -- every word gives a claim or an instruction
 word-taken : (w : Word) (fs : List Field) → is_taken (line_from w fs) ≡ true
@@ -133,22 +131,22 @@ word-taken Turn fs = refl
 record Read (l : List ℕ) : Type 0 where
   word : Word
   spelled : well_spelled l ≡ true
-  named : word_among words l ≡ Known word
-  fields : (place : ℕ) → judged today place (Known word) (fields_in l) ≡ Accepted
+  named : word_among words l ≡ Some word
+  fields : (place : ℕ) → judged today place (Some word) (fields_in l) ≡ accepted
 
 taken-line : (place : ℕ) (l : List ℕ) → Read l → is_taken (read_line today place l) ≡ true
 unfolding read_line
 taken-line place l r = rw (r.spelled, r.named, r.fields place) (word-taken r.word (fields_in l))
 
 module _ (place : ℕ) (l : List ℕ) (s : well_spelled l ≡ true) where
-  by-judgement : (w : Word) → word_among words l ≡ Known w → (j : Judgement) → judged today place (Known w) (fields_in l) ≡ j → is_taken (line_or j (line_from w (fields_in l))) ≡ true → Read l
-  by-judgement w q Accepted a e = record { word = w; spelled = s; named = q; fields = λ p. judged-anywhere place p w (fields_in l) a }
-  by-judgement w q (refused r) a e = absurd (false≢true e)
+  by-judgement : (w : Word) → word_among words l ≡ Some w → (j : Judgement) → judged today place (Some w) (fields_in l) ≡ j → is_taken (line_or j (line_from w (fields_in l))) ≡ true → Read l
+  by-judgement w q (Ok u) a e = record { word = w; spelled = s; named = q; fields = λ p. judged-anywhere place p w (fields_in l) a }
+  by-judgement w q (Err r) a e = absurd (false≢true e)
 
-  by_word : (f : FoundWord) → word_among words l ≡ f → is_taken (line_found today place f (fields_in l)) ≡ true → Read l
+  by_word : (f : Option Word) → word_among words l ≡ f → is_taken (line_found today place f (fields_in l)) ≡ true → Read l
   unfolding judged
-  by_word Unknown q e = absurd (false≢true e)
-  by_word (Known w) q e = by-judgement w q (judged today place (Known w) (fields_in l)) refl e
+  by_word None q e = absurd (false≢true e)
+  by_word (Some w) q e = by-judgement w q (judged today place (Some w) (fields_in l)) refl e
 
 line_taken : (place : ℕ) (l : List ℕ) → is_taken (read_line today place l) ≡ true → Read l
 unfolding read_line
@@ -162,34 +160,34 @@ line_taken place l e = go (well_spelled l) refl e
 -- a call that nothing turns back
 record Set (t : List ℕ) (fs : List Field) (n : ℕ) (s : List ℕ) : Type 0 where
   word : Word
-  named : word_of t ≡ Known word
-  fields : judged today n (Known word) fs ≡ Accepted
+  named : word_of t ≡ Some word
+  fields : judged today n (Some word) fs ≡ accepted
   first : 1 ≤ n
   room : n * line_bytes ≤ length s
   after : listing_set t fs n s ≡ with_line s (n - 1) t fs
 
-call-set : (t : List ℕ) (fs : List Field) (n : ℕ) (s : List ℕ) → line_judged t fs n s ≡ Accepted → Set t fs n s
+call-set : (t : List ℕ) (fs : List Field) (n : ℕ) (s : List ℕ) → line_judged t fs n s ≡ accepted → Set t fs n s
 unfolding line_judged listing_set listing_if judged
 call-set t fs n s e = go (word_of t) refl e
   where
-    go : (f : FoundWord) → word_of t ≡ f → (judged today n f fs and_then room_for n (length s)) ≡ Accepted → Set t fs n s
-    go Unknown q a = let z : ◌≡◌ {A = ℕ} 0 1 = cc in absurd (omega arith)
-    go (Known w) q a =
-        let (fields, room) = both-accepted (judged today n (Known w) fs) (room_for n (length s)) a in
+    go : (f : Option Word) → word_of t ≡ f → (judged today n f fs and_then room_for n (length s)) ≡ accepted → Set t fs n s
+    go None q a = let z : ◌≡◌ {A = ℕ} 0 1 = cc in absurd (omega arith)
+    go (Some w) q a =
+        let (fields, room) = both-accepted (judged today n (Some w) fs) (room_for n (length s)) a in
         let (first, fits) = room-bounds n (length s) (ap is_refused room) in
         record { word = w; named = q; fields = fields; first = first; room = fits; after = rw e }
 
 -- the word of four bytes
-four_bytes : (t : List ℕ) (w : Word) → word_of t ≡ Known w → length t ≡ 4
+four_bytes : (t : List ℕ) (w : Word) → word_of t ≡ Some w → length t ≡ 4
 unfolding word_of
 four_bytes t w e = go (eqb (length t) 4) refl e
   where
-    go : (b : Bool) → eqb (length t) 4 ≡ b → cond b (word_among words t) Unknown ≡ Known w → length t ≡ 4
+    go : (b : Bool) → eqb (length t) 4 ≡ b → cond b (word_among words t) None ≡ Some w → length t ≡ 4
     go true q e = eqb-true _ _ q
     go false q e = let z : ◌≡◌ {A = ℕ} 0 1 = cc in absurd (omega arith)
 
 -- the line that is set, in any forty bytes
-line_read : (l t : List ℕ) (fs : List Field) (w : Word) → length l ≡ line_bytes → length fs ≡ 6 → word_of t ≡ Known w → (n : ℕ) → judged today n (Known w) fs ≡ Accepted
+line_read : (l t : List ℕ) (fs : List Field) (w : Word) → length l ≡ line_bytes → length fs ≡ 6 → word_of t ≡ Some w → (n : ℕ) → judged today n (Some w) fs ≡ accepted
     → (fields_in (line_set l t fs) ≡ fs) × (word_among words (line_set l t fs) ≡ word_of t) × Read (line_set l t fs)
 line_read l t fs w e six q n j =
     let fit = fields_fit n w fs j in
@@ -232,7 +230,7 @@ unfolding well_spelled
 ended l e = eqb-true _ _ (and_right (every_below (λ (j : ℕ). printable (get_or l j 0)) 39) _ e)
 
 -- the first four bytes of a line are its word
-word-of-line : (l : List ℕ) (w : Word) → length l ≡ line_bytes → word_among words l ≡ Known w → word_of (take 4 l) ≡ Known w
+word-of-line : (l : List ℕ) (w : Word) → length l ≡ line_bytes → word_among words l ≡ Some w → word_of (take 4 l) ≡ Some w
 word-of-line l w e q = sym (word-four (take 4 l) (length-take-le 4 l (omega arith))) ∙ word_same words (take 4 l) l (λ i h. get_or-take 4 l i 0 h) ∙ q
 
 pub read-is-written : ReadIsWritten
@@ -240,7 +238,7 @@ unfolding line_judged
 read-is-written place l e taken n s room =
     let r = line_taken place l taken in
     let w = word-of-line l r.word e r.named in
-    let j : line_judged (take 4 l) (fields_in l) n s ≡ Accepted = rw (w, r.fields n, room) in
+    let j : line_judged (take 4 l) (fields_in l) n s ≡ accepted = rw (w, r.fields n, room) in
     let c = call-set (take 4 l) (fields_in l) n s j in (
       j,
       line_after_lem (take 4 l) (fields_in l) n s c

@@ -3,8 +3,7 @@
 
 pub mod kinds;
 
-ghost use Rattle.std.specs.Prelude.{◌≡◌, ◌+◌, ◌*◌, ◌-◌, ◌≤◌, length};
-ghost use Rattle.model.specs.declared.text.FoundWord.TheVariants.{Known};
+ghost use Rattle.std.specs.Prelude.{◌≡◌, ◌+◌, ◌*◌, ◌-◌, ◌≤◌, length, Some};
 ghost use Rattle.model.specs.Limits.{line_bytes, today};
 ghost use Rattle.model.specs.Answers.{◌and_then◌};
 ghost use Rattle.model.specs.Words.{text_of};
@@ -12,21 +11,21 @@ ghost use Rattle.model.specs.Lines.{judged};
 ghost use Rattle.model.specs.Writing.{word_of, room_for, line_judged, with_line, listing_if, listing_set};
 
 use columns::field::kept_fields;
-use lines::fields::judge;
+use lines::judge::judge;
 use lines::words;
-use model::answers::{Judgement, Refusal, is_refused};
+use model::answers::{Judgement, Refusal};
 use model::limits::{GREATEST_LINES, LINE_BYTES};
-use model::text::{Field, FoundWord, Word};
+use model::text::{Field, Word};
 
 // The bytes of a word.
 const WORD_BYTES: usize = 4;
 
 // The word that some bytes are.
-fn word_of(t: &[u8]) -> FoundWord
+fn word_of(t: &[u8]) -> Option<Word>
     ensures { result ≡ word_of t.now }
 {
     if t.len() != WORD_BYTES {
-        return FoundWord::Unknown;
+        return None;
     }
     words::find_word(t)
 }
@@ -37,10 +36,10 @@ fn room_for(n: usize, size: usize) -> Judgement
 {
     if (1 <= n) & (n <= GREATEST_LINES) {
         if n * LINE_BYTES <= size {
-            return Judgement::Accepted;
+            return Ok(());
         }
     }
-    Judgement::Refused(Refusal::NoRoom)
+    Err(Refusal::NoRoom)
 }
 
 // Writes line k, counted from 0, from the bytes of the word that the reader compares with.
@@ -54,29 +53,15 @@ pub fn write_line(s: &mut [u8], k: usize, w: Word, fs: [Field; 6])
     written_line::set_line(&mut s[a..e], &t, fs);
 }
 
-// Of two tests made in order, the first refusal.
-fn first(j: Judgement, k: Judgement) -> Judgement
-    ensures { result ≡ (j and_then k) }
-{
-    if is_refused(j) {
-        return j;
-    }
-    k
-}
-
 // Sets line n to a word and its fields, where nothing turns them back.
 fn set_known(w: Word, fs: [Field; 6], n: usize, s: &mut [u8]) -> Judgement
-    ensures value { result ≡ (judged today n (Known w) fs and_then room_for n (length s.old)) }
-    ensures s_after { s.new ≡ listing_if (judged today n (Known w) fs and_then room_for n (length s.old)) (with_line s.old (n - 1) (text_of w) fs) s.old }
+    ensures value { result ≡ (judged today n (Some w) fs and_then room_for n (length s.old)) }
+    ensures s_after { s.new ≡ listing_if (judged today n (Some w) fs and_then room_for n (length s.old)) (with_line s.old (n - 1) (text_of w) fs) s.old }
 {
-    let judgement = judge(n, FoundWord::Known(w), kept_fields(fs));
-    let room = room_for(n, s.len());
-    let both = first(judgement, room);
-    if is_refused(both) {
-        return both;
-    }
+    judge(n, Some(w), kept_fields(fs))?;
+    room_for(n, s.len())?;
     write_line(s, n - 1, w, fs);
-    both
+    Ok(())
 }
 
 // Sets line n of a listing, counted from 1, to a word and six fields, or turns the call back and changes no byte.
@@ -85,7 +70,7 @@ pub fn set_line(word: &[u8], fields: [Field; 6], n: usize, listing: &mut [u8]) -
     ensures listing_after { listing.new ≡ listing_set word.now fields n listing.old }
 {
     match word_of(word) {
-        FoundWord::Unknown => Judgement::Refused(Refusal::UnknownWord { line: n }),
-        FoundWord::Known(w) => set_known(w, fields, n, listing),
+        None => Err(Refusal::UnknownWord { line: n }),
+        Some(w) => set_known(w, fields, n, listing),
     }
 }

@@ -3,13 +3,13 @@ use Prim.Native.Nat.{ℕ, zero, suc, ◌+◌, ◌-◌, ◌/◌, ◌%◌, ◌≤�
 use native.Mathlib.Nat.{not-suc-le-zero}
 use native.Mathlib.Numerals.{unary_clauses}
 use native.Mathlib.Omega.{arith}
-use native.Mathlib.Decide.{ℕ_discrete}
 use mathlib.Core.Path.{◌≡◌, refl, sym, ◌∙◌}
 use mathlib.Core.Bool.{Bool, true, false, cond}
-use mathlib.Core.List.{List}
-use lib.ListN.{get_or, set, length}
+use mathlib.Core.List.{List, [], ◌∷◌, ◌++◌}
+use lib.ListN.{get_or, set, length, drop, replicate}
 use lib.Dec.{eqb}
-use lib.Seq.{set-get_or, get_or-set_same, get_or-set_other}
+use lib.Seq.{set-get_or, get_or-set_other}
+use Rattle.std.proofs.lemmas.List.{get_or-replicate}
 use borrow.Author.Tests.{lt-ltb, le-ltb, ne_eqb, eq-eqb, eqb-true}
 use Rattle.model.specs.declared.text.Shape.{Shape}
 use Rattle.model.specs.declared.text.Shape.TheVariants.{Spaces, Zero, Digits, Sign, Signed, Wrong}
@@ -45,33 +45,22 @@ spaces-stay = shape-stays Spaces (λ u. refl) (λ u. refl)
 wrong_stays : (s : List ℕ) (at n v : ℕ) → Cleared s at n → columns_set s at n Wrong v ≡ s
 wrong_stays = shape-stays Wrong (λ u. refl) (λ u. refl)
 
--- a space more
-pub space-more : (s : List ℕ) (i : ℕ) → i < length s → ((j : ℕ) → j < i → get_or s j 0 ≡ space) → (j : ℕ) → j < i + 1 → get_or (set s i space) j 0 ≡ space
-space-more s i h f j l = go (ℕ_discrete j i)
-  where
-    go : Dec (j ≡ i) → get_or (set s i space) j 0 ≡ space
-    go (yes q) = rw q (get_or-set_same s i space 0 h)
-    go (no q) = get_or-set_other s i j space 0 q ∙ f j (omega arith)
-
 -- ---- digits
 pub digit-more : (negative : Bool) (s : List ℕ) (at i u : ℕ) → 0 < i → 10 ≤ u → columns_set (set s (at + (i - 1)) (48 + u % 10)) at (i - 1) (digit_shape negative (u / 10)) (u / 10) ≡ columns_set s at i (digit_shape negative u) u
 digit-more true s at i u h l = sym (columns-step s at i Signed u h ∙ rw (le-ltb u 10 l))
 digit-more false s at i u h l =
     rw (ne_eqb (u / 10) 0 (λ e. omega arith), ne_eqb u 0 (λ e. omega arith)) (sym (columns-step s at i Digits u h ∙ rw (le-ltb u 10 l)))
 
-pub digit-last : (negative : Bool) (s : List ℕ) (at i u : ℕ) → 0 < i → u < 10 → columns_set (set s (at + (i - 1)) (48 + u)) at (i - 1) (left_shape negative) 0 ≡ columns_set s at i (digit_shape negative u) u
-digit-last negative s at i u h l = go negative (eqb u 0) refl
+pub digit-last : (negative : Bool) (s : List ℕ) (at i u : ℕ) → 0 < i → u / 10 ≡ 0 → columns_set (set s (at + (i - 1)) (48 + u % 10)) at (i - 1) (left_shape negative) 0 ≡ columns_set s at i (digit_shape negative u) u
+digit-last negative s at i u h z = go negative (eqb u 0) refl
   where
-    q : u % 10 ≡ u
-    q = omega arith
+    l : u < 10
+    l = omega arith
 
-    z : u / 10 ≡ 0
-    z = omega arith
-
-    go : (negative b : Bool) → eqb u 0 ≡ b → columns_set (set s (at + (i - 1)) (48 + u)) at (i - 1) (left_shape negative) 0 ≡ columns_set s at i (cond negative Signed (cond b Zero Digits)) u
-    go true b e = sym (columns-step s at i Signed u h ∙ rw (lt-ltb u 10 l, q, z))
+    go : (negative b : Bool) → eqb u 0 ≡ b → columns_set (set s (at + (i - 1)) (48 + u % 10)) at (i - 1) (left_shape negative) 0 ≡ columns_set s at i (cond negative Signed (cond b Zero Digits)) u
+    go true b e = sym (columns-step s at i Signed u h ∙ rw (lt-ltb u 10 l, z))
     go false true e = let o : u ≡ 0 = omega (arith, eqb-true u 0 e) in sym (columns-step s at i Zero u h ∙ rw (z, o))
-    go false false e = sym (columns-step s at i Digits u h ∙ rw (lt-ltb u 10 l, q, z))
+    go false false e = sym (columns-step s at i Digits u h ∙ rw (lt-ltb u 10 l, z))
 
 pub same-all : (k : ℕ) (s : List ℕ) → SameBefore k s s
 unfolding SameBefore
@@ -87,6 +76,25 @@ unfolding SameBefore
 same-before at i b s t h f j l = get_or-set_other s (at + (i - 1)) j b 0 (λ e. omega arith) ∙ f j (omega arith)
 
 -- ---- a line that is cleared
+-- a line of spaces
+pub cleared : (n : ℕ) → 39 ≤ n → ClearedFrom 0 (replicate n space)
+unfolding ClearedFrom
+cleared n h i l b = get_or-replicate n i space 0 (omega arith)
+
+-- four bytes put in the place of the first
+pub word-put : (l t : List ℕ) → 4 ≤ length l → length t ≡ 4 → t ++ drop 4 l ≡ word_set l t
+unfolding word_set
+word-put (x ∷ y ∷ z ∷ u ∷ l) (a ∷ b ∷ c ∷ d ∷ []) h g = refl
+word-put [] t h g = absurd (omega arith)
+word-put (x ∷ []) t h g = absurd (omega arith)
+word-put (x ∷ y ∷ []) t h g = absurd (omega arith)
+word-put (x ∷ y ∷ z ∷ []) t h g = absurd (omega arith)
+word-put l [] h g = absurd (omega arith)
+word-put l (a ∷ []) h g = absurd (omega arith)
+word-put l (a ∷ b ∷ []) h g = absurd (omega arith)
+word-put l (a ∷ b ∷ c ∷ []) h g = absurd (omega arith)
+word-put l (a ∷ b ∷ c ∷ d ∷ e ∷ t) h g = absurd (omega arith)
+
 cleared-word-byte : (l t : List ℕ) (j : ℕ) → 4 ≤ j → get_or (word_set l t) j 0 ≡ get_or l j 0
 unfolding word_set
 cleared-word-byte l t j h =

@@ -1,12 +1,15 @@
--- The part of a listing that is read, or none. Assumes nothing.
+-- The part of a listing that is read, or what turns the call back. Assumes nothing.
+use Rattle.std.proofs.lemmas.Result.{err_from_is_err_and}
 use Rattle.claim_parts.proofs.Parts.{none-refused, none-past, part-read}
 use Rattle.claim_parts.proofs.claim_part.Goals as goal
 
-pub returns-then-point-l : goal.returns-then-point-l
-returns-then-point-l c = part-read _ _ _ _ c.read_listing-l.ensures _ _ c.in-Accepted.is c.if-point-l.true (c.part_of.ensures _)
+pub returns-in_err-count : goal.returns-in_err-count
+returns-in_err-count c =
+    let p = err_from_is_err_and c.from_residual.result c.from_residual.ensures.1 in
+    rw (p.1, p.2) (none-refused _ _ _ _ _ (rw c.in_err-count.was at c.read_listing.ensures))
 
-pub returns-in-Refused : goal.returns-in-Refused
-returns-in-Refused c = none-refused _ _ _ _ c.read_listing-l.ensures _ _ _ c.in-Refused.is c.no_part.ensures
+pub returns-then-point-count : goal.returns-then-point-count
+returns-then-point-count c = part-read _ _ _ _ _ (rw c.in_ok-count.was at c.read_listing.ensures) _ c.if-point-count.true (c.part_of.ensures _)
 
-pub returns-else-point-l : goal.returns-else-point-l
-returns-else-point-l c = none-past _ _ _ _ c.read_listing-l.ensures _ _ c.in-Accepted.is c.if-point-l.false c.no_part-in-Accepted.ensures
+pub returns : goal.returns
+returns c = none-past _ _ _ _ _ (rw c.in_ok-count.was at c.read_listing.ensures) c.if-point-count.false

@@ -7,77 +7,69 @@ use borrow.Author.Rules.{rules}
 use Rattle.model.specs.Limits as Limits
 use Rattle.model.specs.Listing.{listing_of, points_of}
 use Rattle.model.specs.Machine.{lent, sizes_of, values_from}
-use Rattle.steps.proofs.InstructionSteps.{stepped-as}
-use Rattle.state_tests.specs.States.{state}
 use Rattle.state_tests.proofs.StateJudged.{met}
 use Rattle.run_loop.proofs.RunLoop.{passes, steppable, stopped-here, paused-here, goes_on, start_is, at-start, lent-bytes, ran_to}
 use Rattle.run_loop.proofs.run_code.Goals as goal
 
 pub words-requires : goal.words-requires
 words-requires c =
-    (met (points_of (listing_of c.args.listing.now)) (state c.args.start c.args.registers) (sizes_of (lent c.args.trays.now c.args.results.now)) c.requires.results_value).fit
+    (met (points_of (listing_of c.args.listing.now)) c.args.start (sizes_of (lent c.args.trays.now c.args.results.now)) c.requires.results_value).fit
 
-pub loop-values-init : goal.loop-values-init
-loop-values-init c =
-    let h = met (points_of (listing_of c.args.listing.now)) (state c.args.start c.args.registers) (sizes_of (lent c.args.trays.now c.args.results.now)) c.requires.results_value in
-    let sixteen : length c.args.registers ≡ Limits.registers = search rules in
-    let bytes = lent-bytes _ _ (λ i. (c.shared_slice_known-3-1.given i).fits) (λ i. (c.slice_known-1.given i).fits) in
-    at-start _ _ (passes _ c.requires.listing_value) (state c.args.start c.args.registers) _ (lent c.args.trays.now c.args.results.now) sixteen bytes h.claims (c.values_of-values.ensures ∙ ap (values_from c.args.registers) c.words.ensures)
+pub loop-instruction-init : goal.loop-instruction-init
+loop-instruction-init c =
+    let h = met (points_of (listing_of c.args.listing.now)) c.args.start (sizes_of (lent c.args.trays.now c.args.results.now)) c.requires.results_value in
+    let sixteen : length c.args.start.registers ≡ Limits.registers = search rules in
+    let bytes = lent-bytes _ _ (λ i. (c.shared_slice_known-2-1.given i).fits) (λ i. (c.slice_known-1.given i).fits) in
+    at-start _ _ (passes _ c.requires.listing_value) c.args.start _ (lent c.args.trays.now c.args.results.now) sixteen bytes h.claims (c.values_of-values.ensures ∙ ap (values_from c.args.start.registers) c.words.ensures)
 
-pub is_stop-requires : goal.is_stop-requires
-is_stop-requires c =
+pub bounds-code-point : goal.bounds-code-point
+bounds-code-point c =
     let long = c.requires.coded.long in
-    let i = c.loop-values.invariant.good.exists in
+    let i = c.loop-instruction.invariant.good.exists in
     omega arith
 
 pub returns-then-is_stop : goal.returns-then-is_stop
 returns-then-is_stop c =
-    let sixteen : length c.args.registers ≡ Limits.registers = search rules in
-    let x = state c.args.start c.args.registers in
+    let sixteen : length c.args.start.registers ≡ Limits.registers = search rules in
+    let x = c.args.start in
     let t = lent c.args.trays.now c.args.results.now in
-    let first = c.values_of-values.ensures ∙ ap (values_from c.args.registers) c.words.ensures in
-    let e = stopped-here _ _ _ _ (passes _ c.requires.listing_value) c.loop-values.invariant _ (c.requires.coded.each _ c.loop-values.invariant.good.exists) (sym c.is_stop.ensures ∙ c.if-is_stop.true) in
+    let first = c.values_of-values.ensures ∙ ap (values_from c.args.start.registers) c.words.ensures in
+    let e = stopped-here _ _ _ _ (passes _ c.requires.listing_value) c.loop-instruction.invariant _ (c.requires.coded.each _ c.loop-instruction.invariant.good.exists) (sym c.is_stop.ensures ∙ c.if-is_stop.true) in
     let r = ran_to c.args.listing.now x t c.args.budget c.requires.listing_value c.requires.results_value _ (start_is x _ t sixteen first) _ _ e in
     record { outcome = c.ended.ensures ∙ r.outcome; results = r.results }
 
 pub returns-then-made-budget : goal.returns-then-made-budget
 returns-then-made-budget c =
-    let sixteen : length c.args.registers ≡ Limits.registers = search rules in
-    let x = state c.args.start c.args.registers in
+    let sixteen : length c.args.start.registers ≡ Limits.registers = search rules in
+    let x = c.args.start in
     let t = lent c.args.trays.now c.args.results.now in
-    let first = c.values_of-values.ensures ∙ ap (values_from c.args.registers) c.words.ensures in
-    let e = paused-here _ _ _ _ (passes _ c.requires.listing_value) c.loop-values.invariant _ (c.requires.coded.each _ c.loop-values.invariant.good.exists) (sym c.is_stop.ensures ∙ c.if-is_stop.false) c.if-made-budget.true in
+    let first = c.values_of-values.ensures ∙ ap (values_from c.args.start.registers) c.words.ensures in
+    let e = paused-here _ _ _ _ (passes _ c.requires.listing_value) c.loop-instruction.invariant _ (c.requires.coded.each _ c.loop-instruction.invariant.good.exists) (sym c.is_stop.ensures ∙ c.if-is_stop.false) c.if-made-budget.true in
     let r = ran_to c.args.listing.now x t c.args.budget c.requires.listing_value c.requires.results_value _ (start_is x _ t sixteen first) _ _ e in
     record { outcome = c.ended-then-made-budget.ensures ∙ r.outcome; results = r.results }
-
-pub instruction_at-instruction-requires : goal.instruction_at-instruction-requires
-instruction_at-instruction-requires c =
-    let long = c.requires.coded.long in
-    let i = c.loop-values.invariant.good.exists in
-    omega arith
 
 pub step-point-requires : goal.step-point-requires
 step-point-requires c =
     let coded = c.requires.coded in
     let most = coded.few in
-    let i = c.loop-values.invariant.good.exists in
-    steppable _ _ _ _ (passes _ c.requires.listing_value) c.loop-values.invariant _ (c.instruction_at-instruction.ensures ∙ coded.each _ i) (omega arith)
+    let i = c.loop-instruction.invariant.good.exists in
+    steppable _ _ _ _ (passes _ c.requires.listing_value) c.loop-instruction.invariant _ (coded.each _ i) (omega arith)
 
 pub overflow_add-made : goal.overflow_add-made
 overflow_add-made c =
-    let w = c.loop-values.invariant.within in
+    let w = c.loop-instruction.invariant.within in
     let left = c.if-made-budget.false in
     let f = c.ranges.budget in
     omega arith
 
-pub loop-values-smaller : goal.loop-values-smaller
-loop-values-smaller c =
-    let w = c.loop-values.invariant.within in
+pub loop-instruction-smaller : goal.loop-instruction-smaller
+loop-instruction-smaller c =
+    let w = c.loop-instruction.invariant.within in
     let left = c.if-made-budget.false in
     omega arith
 
-pub loop-values-preserved : goal.loop-values-preserved
-loop-values-preserved c =
-    let same = c.requires.coded.each _ c.loop-values.invariant.good.exists in
+pub loop-instruction-preserved : goal.loop-instruction-preserved
+loop-instruction-preserved c =
+    let same = c.requires.coded.each _ c.loop-instruction.invariant.good.exists in
     let going = sym c.is_stop.ensures ∙ c.if-is_stop.false in
-    goes_on _ _ _ _ (passes _ c.requires.listing_value) c.loop-values.invariant _ same going c.if-made-budget.false _ _ _ (stepped-as (sym c.instruction_at-instruction.ensures) c.step-point.ensures)
+    goes_on _ _ _ _ (passes _ c.requires.listing_value) c.loop-instruction.invariant _ same going c.if-made-budget.false _ _ _ c.step-point.ensures

@@ -6,8 +6,8 @@ use Rattle.steps.specs.Stepped.{config}
 use Rattle.run_loop.proofs.RunLoop.{Going}
 use Rattle.run_loop.proofs.run_code.Given as goal
 
-abbrev pub invariant-loop-values : goal.invariant-loop-values
-invariant-loop-values l = Going (points_of (listing_of l.listing)) (sizes_of (lent l.trays l.initial.results)) l.budget (config l.initial.point l.initial.values (lent l.trays l.initial.results)) l.made l.point l.values (lent l.trays l.results)
+abbrev pub invariant-loop-instruction : goal.invariant-loop-instruction
+invariant-loop-instruction l = Going (points_of (listing_of l.listing)) (sizes_of (lent l.trays l.initial.results)) l.budget (config l.initial.point l.initial.values (lent l.trays l.initial.results)) l.made l.point l.values (lent l.trays l.results)
 
-abbrev pub decreases-loop-values : goal.decreases-loop-values
-decreases-loop-values l = l.budget - l.made
+abbrev pub decreases-loop-instruction : goal.decreases-loop-instruction
+decreases-loop-instruction l = l.budget - l.made

@@ -1,8 +1,9 @@
--- Four bytes are set one by one. Assumes nothing.
-use mathlib.Core.Path.{refl}
-use Rattle.model.specs.Lines.{word_set}
+-- Four bytes are put in the place of the first. Assumes nothing.
+use Rattle.std.proofs.Common.{◌≡◌, length, rules}
+use Rattle.written_line.proofs.ClearedColumns.{word-put}
 use Rattle.written_line.proofs.set_word.Goals as goal
 
 pub returns : goal.returns
-unfolding word_set
-returns c = refl
+returns c =
+    let four : length c.args.t.now ≡ 4 = search rules in
+    rw c.copy_from_slice.ensures.after (word-put _ _ c.requires four)

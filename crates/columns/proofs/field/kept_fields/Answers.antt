@@ -4,6 +4,4 @@ use Rattle.columns.proofs.KeptShapes.{six-kept}
 use Rattle.columns.proofs.field.kept_fields.Goals as goal
 
 pub returns : goal.returns
-returns c =
-    c.six.ensures
-    ∙ six-kept _ c.kept_plain-a.ensures c.kept_plain-b.ensures c.kept_plain-c.ensures c.kept_plain-d.ensures c.kept_plain-e.ensures c.kept_signed-f.ensures
+returns c = c.six.ensures ∙ six-kept _ c.kept-a.ensures c.kept-b.ensures c.kept-c.ensures c.kept-d.ensures c.kept-e.ensures c.kept-f.ensures

@@ -7,6 +7,6 @@ pub returns-then-j-eq5 : goal.returns-then-j-eq5
 unfolding width_of
 returns-then-j-eq5 c = simp (eq-eqb _ _ c.if-j-eq5.true)
 
-pub returns : goal.returns
+pub returns-else-j-eq5 : goal.returns-else-j-eq5
 unfolding width_of
-returns c = simp (ne_eqb _ _ c.if-j-eq5.false)
+returns-else-j-eq5 c = simp (ne_eqb _ _ c.if-j-eq5.false)

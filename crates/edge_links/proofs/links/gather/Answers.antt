@@ -1,15 +1,24 @@
--- The first k links are those among the first i rows. Assumes nothing.
-use Prim.Native.Nat.{◌-◌}
-use native.Mathlib.Omega.{arith}
-use borrow.Author.Rules.{rules}
-use Rattle.edge_links.proofs.LinkRows.{gathered_none, gathered-more}
+-- The links are those among the stripes that are passed. Assumes nothing.
+use Rattle.std.proofs.Common.{take, refl, sym, ◌∙◌, arith}
+use Rattle.std.proofs.lemmas.List.{take_more}
+use Rattle.model.specs.Lists.{some}
+use Rattle.model.specs.Transfer.{stripe}
+use Rattle.edge_links.specs.Links.{Gathered}
+use Rattle.edge_links.proofs.BetterLinks.{gathered-passed, gathered-added}
 use Rattle.edge_links.proofs.links.gather.Goals as goal
+use Rattle.edge_links.proofs.links.gather.Goals.{then-is_link, else-is_link}
 
-pub loop-i-init : goal.loop-i-init
-loop-i-init c = (search rules, search rules, c.requires.sized_links, gathered_none c.args.links.now c.args.stripes.now)
+pub loop-s-init : goal.loop-s-init
+unfolding some
+loop-s-init c = rw c.clear.ensures (omega arith, λ p lasting. refl)
 
-pub loop-i-preserved : goal.loop-i-preserved
-loop-i-preserved c =
-    let a = c.args in
-    let at = c.loop-i in
-    (omega arith, omega arith, c.add_row-k.ensures.upper_bound.1, gathered-more c.add_row-k.new.links c.add_row-k.result at.links at.k a.stripes.now at.i at.invariant.3 c.add_row-k.ensures.grown)
+pub loop-s-preserved : goal.loop-s-preserved
+loop-s-preserved c =
+    let at = c.loop-s in
+    let ss = c.as_slice-s-items.result.now in
+    let known : Gathered at.links (take at.s-index ss) = at.invariant.1 in
+    rw (take_more ss at.s-index (stripe 0 0 0 0 0 0) c.loop-s-test.true)
+    (elim c.if-is_link.branch [
+      | then-is_link w ↦ rw w.links-is (omega (arith, w.add.ensures.few), gathered-added at.links (take at.s-index ss) _ known w.add.new.links (sym c.is_link.ensures ∙ w.if-is_link.true) w.add.ensures.added)
+      | else-is_link w ↦ rw w.links-is (omega arith, gathered-passed at.links (take at.s-index ss) _ known (sym c.is_link.ensures ∙ w.if-is_link.false))
+    ])

@@ -1,10 +1,7 @@
--- The first k links are those among the first i rows. Assumes nothing.
-use Prim.Native.Nat.{◌≤◌, ◌-◌}
-use Rattle.edge_links.specs.Links.{SizedLinks, Gathered}
+-- The links are those among the stripes that are passed, and no more than these. Assumes nothing.
+use Rattle.std.proofs.Common.{◌≤◌, length, take}
+use Rattle.edge_links.specs.Links.{Gathered}
 use Rattle.edge_links.proofs.links.gather.Given as goal
 
-abbrev pub invariant-loop-i : goal.invariant-loop-i
-invariant-loop-i l = (l.i ≤ l.count) × (l.k ≤ l.i) × SizedLinks l.links × Gathered l.links l.k l.stripes l.i
-
-abbrev pub decreases-loop-i : goal.decreases-loop-i
-decreases-loop-i l = l.count - l.i
+abbrev pub invariant-loop-s : goal.invariant-loop-s
+invariant-loop-s l = (length l.links ≤ l.s-index) × Gathered l.links (take l.s-index l.s-items)

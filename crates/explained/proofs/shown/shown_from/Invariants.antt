@@ -1,12 +1,8 @@
 -- The loop's invariant: the bytes passed stand shown at the left of the spaces. Assumes nothing.
-use Prim.Native.Nat.{◌≤◌, ◌-◌}
 use mathlib.Core.Path.{◌≡◌}
 use lib.ListN.{drop}
 use Rattle.explained.proofs.ShownLine.{shown_to}
 use Rattle.explained.proofs.shown.shown_from.Given as goal
 
 abbrev pub invariant-loop-j : goal.invariant-loop-j
-invariant-loop-j l = (l.j ≤ 39) × (l.text ≡ shown_to (drop l.at l.listing) l.j)
-
-abbrev pub decreases-loop-j : goal.decreases-loop-j
-decreases-loop-j l = 39 - l.j
+invariant-loop-j l = l.text ≡ shown_to (drop l.at l.listing) l.j

@@ -1,29 +1,22 @@
--- The loop's invariant: what was passed is spaces, and does not count. Assumes nothing.
-use mathlib.Core.Path.{◌≡◌, refl, sym, ap, ◌∙◌}
+-- The last byte that is no space ends the text. Assumes nothing.
+use mathlib.Core.Path.{◌≡◌, sym, ap, ◌∙◌}
+use Prim.Native.Nat.{◌+◌, ◌-◌}
 use native.Mathlib.Omega.{arith}
-use lib.Seq.{length-take-le}
 use Rattle.explained.specs.Explanation.{trimmed_to}
 use Rattle.explained.proofs.TrimmedText.{space-cut, byte-kept}
 use Rattle.explained.proofs.shown.trimmed.Goals as goal
 
-pub loop-n-init : goal.loop-n-init
-loop-n-init c = (omega arith, refl)
-
-pub returns-then-text-n-ne-SPACE : goal.returns-then-text-n-ne-SPACE
-returns-then-text-n-ne-SPACE c =
-    let l = c.loop-n in
-    let t = c.args.text.now in
-    record { upper_bound = (omega arith, sym (length-take-le l.n t (omega arith))); value = sym (l.invariant.1 ∙ byte-kept t l.n (omega arith) c.if-text-n-ne-SPACE.true) }
+pub returns-then-text-n-ne-SPACE-clause-value : goal.returns-then-text-n-ne-SPACE-clause-value
+returns-then-text-n-ne-SPACE-clause-value c =
+    let n = c.loop-n.n in
+    let e : n - 1 + 1 ≡ n = omega arith in
+    e ∙ sym (c.loop-n.invariant ∙ byte-kept c.args.text.now n (omega arith) c.if-text-n-ne-SPACE.true)
 
 pub loop-n-preserved : goal.loop-n-preserved
-loop-n-preserved c =
-    let l = c.loop-n in
-    (omega arith, l.invariant.1 ∙ space-cut c.args.text.now l.n (omega arith) c.if-text-n-ne-SPACE.false)
+loop-n-preserved c = c.loop-n.invariant ∙ space-cut c.args.text.now c.loop-n.n (omega arith) c.if-text-n-ne-SPACE.false
 
-pub returns : goal.returns
+pub returns-clause-value : goal.returns-clause-value
 unfolding trimmed_to
-returns c =
-    let l = c.loop-n in
-    let t = c.args.text.now in
-    let e : l.n ≡ 0 = omega arith in
-    record { upper_bound = (omega arith, sym (length-take-le l.n t (omega arith))); value = e ∙ sym (l.invariant.1 ∙ ap (trimmed_to t) e) }
+returns-clause-value c =
+    let e : c.loop-n.n ≡ 0 = omega arith in
+    sym (c.loop-n.invariant ∙ ap (trimmed_to c.args.text.now) e)

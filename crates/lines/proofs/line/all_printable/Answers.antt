@@ -1,15 +1,21 @@
--- The loop's invariant: the answer so far is that of the columns passed. Assumes nothing.
-use Rattle.std.proofs.Common.{◌≡◌, ◌-◌, refl, add-one, arith}
+-- A column more. Assumes nothing.
+use Rattle.std.proofs.Common.{◌≡◌, ◌<◌, refl, add-one, arith}
+use Rattle.std.proofs.lemmas.List.{get_or-take, length-take}
 use Rattle.model.specs.Lists.{every_below}
 use Rattle.lines.proofs.line.all_printable.Goals as goal
 
-pub loop-j-init : goal.loop-j-init
-unfolding every_below
-loop-j-init c = (omega arith, refl)
+pub slice_bounds-b-items-end : goal.slice_bounds-b-items-end
+slice_bounds-b-items-end c = omega (arith, length-take 39 c.args.l.now)
 
-pub loop-j-preserved : goal.loop-j-preserved
+pub loop-b-init : goal.loop-b-init
 unfolding every_below
-loop-j-preserved c = (omega arith, rw (c.is_printable-ok.ensures, c.loop-j.invariant.1, add-one))
+loop-b-init c = refl
+
+pub loop-b-preserved : goal.loop-b-preserved
+unfolding every_below
+loop-b-preserved c =
+    let passed : c.loop-b.b-index < 39 = omega (arith, length-take 39 c.args.l.now) in
+    rw (c.is_printable-ok.ensures, get_or-take 39 c.args.l.now c.loop-b.b-index 0 passed, c.loop-b.invariant, add-one)
 
 pub returns : goal.returns
-returns c = let e : c.loop-j.j ≡ 39 = omega arith in rw (← e) c.loop-j.invariant.1
+returns c = let e : c.loop-b.b-index ≡ 39 = omega (arith, length-take 39 c.args.l.now) in rw (← e) c.loop-b.invariant

@@ -8,4 +8,4 @@ pub returns : goal.returns
 unfolding fields_in width_of
 returns c =
     c.six.ensures
-    ∙ six-kept (fields_in c.args.l.now) c.read_short-a.ensures c.read_short-b.ensures c.read_short-c.ensures c.read_short-d.ensures c.read_short-e.ensures c.read_long-f.ensures
+    ∙ six-kept (fields_in c.args.l.now) c.read_field-a.ensures c.read_field-b.ensures c.read_field-c.ensures c.read_field-d.ensures c.read_field-e.ensures c.read_field-f.ensures

@@ -4,4 +4,4 @@ use Rattle.lines.proofs.words.begins_with.Goals as goal
 
 pub returns : goal.returns
 unfolding begins
-returns c = rw (c.same.ensures, c.text-t.ensures)
+returns c = rw (c.same.ensures, c.text.ensures)

@@ -1,37 +1,46 @@
 -- Each test in the model's order. Assumes nothing.
-use mathlib.Core.Path.{sym, ap, ◌∙◌}
-use Rattle.model.specs.Instructions.{targets, has_target}
-use Rattle.line_rows.specs.declared.rows.Row.{Row}
+use Rattle.std.proofs.Common.{sym, ap, ◌∙◌}
+use Rattle.std.proofs.lemmas.Result.{err_from_is_err_and}
 use Rattle.decoded.specs.Decoded.{instruction_from}
-use Rattle.decoded.proofs.RowInstructions.{own-target}
-use Rattle.obligations.proofs.Owed.{target-placed, by-safety, by_next, by-none, by-target}
-use borrow.Author.Tests.{not-true, not-false}
+use Rattle.obligations.proofs.Owed.{next-follows, next-none, by-safety, by_next, by-none, by-target}
 use Rattle.obligations.proofs.points.owed_judged.Goals as goal
+use Rattle.obligations.proofs.points.owed_judged.Goals.{then-goes_on+in_ok-claims_judged, else-goes_on}
 
-pub returns-then-is_refused-clause-value : goal.returns-then-is_refused-clause-value
-returns-then-is_refused-clause-value c =
+pub returns-in_err-safety_judged : goal.returns-in_err-safety_judged
+returns-in_err-safety_judged c =
     let h = c.requires.holds in
-    let i = c.instruction_from-i.ensures ∙ ap instruction_from c.instruction_row-r.ensures in by-safety _ _ _ _ h.0 h.1 _ _ _ c.line_of-line.ensures c.requires.m_value i _ c.safety_judged-safe.ensures (sym c.is_refused.ensures ∙ c.if-is_refused.true)
+    let i = c.instruction_from-i.ensures ∙ ap instruction_from c.instruction_row-r.ensures in
+    let p = err_from_is_err_and c.from_residual.result c.from_residual.ensures.1 in
+    rw (p.1, p.2) (by-safety _ _ _ _ h.0 h.1 _ _ _ c.line_of-line.ensures c.requires.facts i _ (sym c.safety_judged.ensures ∙ c.in_err-safety_judged.was))
 
-pub returns-then-is_refused-2-clause-value : goal.returns-then-is_refused-2-clause-value
-returns-then-is_refused-2-clause-value c =
+pub returns-in_err-claims_judged : goal.returns-in_err-claims_judged
+returns-in_err-claims_judged c =
     let h = c.requires.holds in
-    let i = c.instruction_from-i.ensures ∙ ap instruction_from c.instruction_row-r.ensures in by_next _ _ _ _ h.0 h.1 _ _ _ c.line_of-line.ensures c.requires.m_value i _ c.safety_judged-safe.ensures (sym c.is_refused.ensures ∙ c.if-is_refused.false) _ c.goes_on.ensures _ c.edge_judged-next.ensures.value (sym c.is_refused-2.ensures ∙ c.if-is_refused-2.true)
+    let i = c.instruction_from-i.ensures ∙ ap instruction_from c.instruction_row-r.ensures in
+    let p = err_from_is_err_and c.from_residual-in_err-claims_judged.result c.from_residual-in_err-claims_judged.ensures.1 in
+    rw (p.1, p.2) (by_next _ _ _ _ h.0 h.1 _ _ _ c.line_of-line.ensures c.requires.facts i (sym c.safety_judged.ensures ∙ c.in_ok-safety_judged.was) (sym c.goes_on.ensures ∙ c.if-goes_on.true) _ (sym c.claims_judged.ensures ∙ c.in_err-claims_judged.was))
 
-pub returns-then-not-has_target-clause-value : goal.returns-then-not-has_target-clause-value
-returns-then-not-has_target-clause-value c =
+pub returns-in-None : goal.returns-in-None
+returns-in-None c =
+    let a = c.args in
     let h = c.requires.holds in
-    let i = c.instruction_from-i.ensures ∙ ap instruction_from c.instruction_row-r.ensures in by-none _ _ _ _ h.0 h.1 _ _ _ c.line_of-line.ensures c.requires.m_value i _ c.safety_judged-safe.ensures (sym c.is_refused.ensures ∙ c.if-is_refused.false) _ c.goes_on.ensures _ c.edge_judged-next.ensures.value (sym c.is_refused-2.ensures ∙ c.if-is_refused-2.false)
-    (ap (λ (r : Row). has_target (instruction_from r)) (sym c.instruction_row-r.ensures) ∙ sym c.has_target.ensures ∙ not-true _ c.if-not-has_target.true-raw)
+    let i = c.instruction_from-i.ensures ∙ ap instruction_from c.instruction_row-r.ensures in
+    by-none a.rows.now a.at.now a.n a.p h.0 h.1 _ _ _ c.line_of-line.ensures c.requires.facts i (sym c.safety_judged.ensures ∙ c.in_ok-safety_judged.was)
+    (elim c.if-goes_on.branch [
+      | then-goes_on+in_ok-claims_judged w ↦ next-follows a.rows.now a.at.now a.n a.p h.0 h.1 _ _ _ c.line_of-line.ensures c.requires.facts i (sym c.goes_on.ensures ∙ w.if-goes_on.true) (sym w.claims_judged.ensures ∙ w.in_ok-claims_judged.was)
+      | else-goes_on w ↦ next-none a.rows.now a.at.now a.n a.p h.0 h.1 _ _ _ c.line_of-line.ensures c.requires.facts i (sym c.goes_on.ensures ∙ w.if-goes_on.false)
+    ])
+    (rw c.instruction_row-r.ensures at c.in-None.ensures)
 
-pub edge_judged-requires-clause-placed : goal.edge_judged-requires-clause-placed
-edge_judged-requires-clause-placed c =
+pub returns-in-Some : goal.returns-in-Some
+returns-in-Some c =
+    let a = c.args in
     let h = c.requires.holds in
-    let q = h.0.all.each _ h.1 in
-    let i = c.instruction_from-i.ensures ∙ ap instruction_from c.instruction_row-r.ensures in λ on. target-placed _ _ _ _ h.0 h.1 _ _ _ c.line_of-line.ensures c.requires.m_value i _ c.safety_judged-safe.ensures _ (ap (λ (r : Row). targets (instruction_from r)) (sym c.instruction_row-r.ensures) ∙ own-target _ (sym c.has_target.ensures ∙ not-false _ c.if-not-has_target.false-raw))
-
-pub returns-clause-value : goal.returns-clause-value
-returns-clause-value c =
-    let h = c.requires.holds in
-    let i = c.instruction_from-i.ensures ∙ ap instruction_from c.instruction_row-r.ensures in by-target _ _ _ _ h.0 h.1 _ _ _ c.line_of-line.ensures c.requires.m_value i _ c.safety_judged-safe.ensures (sym c.is_refused.ensures ∙ c.if-is_refused.false) _ c.goes_on.ensures _ c.edge_judged-next.ensures.value (sym c.is_refused-2.ensures ∙ c.if-is_refused-2.false)
-    _ c.facts_at-again.ensures.result_after _ (ap (λ (r : Row). targets (instruction_from r)) (sym c.instruction_row-r.ensures) ∙ own-target _ (sym c.has_target.ensures ∙ not-false _ c.if-not-has_target.false-raw)) _ c.edge_judged.ensures.value
+    let i = c.instruction_from-i.ensures ∙ ap instruction_from c.instruction_row-r.ensures in
+    c.claims_judged-in-Some.ensures
+    ∙ by-target a.rows.now a.at.now a.n a.p h.0 h.1 _ _ _ c.line_of-line.ensures c.requires.facts i (sym c.safety_judged.ensures ∙ c.in_ok-safety_judged.was)
+    (elim c.if-goes_on.branch [
+      | then-goes_on+in_ok-claims_judged w ↦ next-follows a.rows.now a.at.now a.n a.p h.0 h.1 _ _ _ c.line_of-line.ensures c.requires.facts i (sym c.goes_on.ensures ∙ w.if-goes_on.true) (sym w.claims_judged.ensures ∙ w.in_ok-claims_judged.was)
+      | else-goes_on w ↦ next-none a.rows.now a.at.now a.n a.p h.0 h.1 _ _ _ c.line_of-line.ensures c.requires.facts i (sym c.goes_on.ensures ∙ w.if-goes_on.false)
+    ])
+    _ (rw c.instruction_row-r.ensures at c.in-Some.ensures)

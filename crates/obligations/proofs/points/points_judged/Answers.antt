@@ -1,31 +1,16 @@
--- The loop keeps every point passed accepted. Assumes nothing.
-use Prim.Native.Nat.{◌-◌, ◌*◌}
-use mathlib.Core.Path.{◌≡◌, sym, ◌∙◌}
-use native.Mathlib.Omega.{arith}
-use Rattle.facts.specs.Sizes.{greatest_part, edge_stripes}
-use Rattle.facts.proofs.WrittenArrays.{zeros}
-use Rattle.reader.proofs.GatheredClaims.{none-standing}
+-- Every point that is passed is accepted. Assumes nothing.
+use Rattle.std.proofs.Common.{sym, ◌∙◌}
+use Rattle.std.proofs.lemmas.Result.{err_from_is_err_and}
 use Rattle.obligations.proofs.Owed.{points_none, accepted-next, refused_all}
 use Rattle.obligations.proofs.points.points_judged.Goals as goal
 
 pub loop-p-init : goal.loop-p-init
-loop-p-init c = (omega arith, points_none _, none-standing, zeros (edge_stripes * 6) greatest_part)
+loop-p-init c = points_none _
 
-pub point_judged-j-requires : goal.point_judged-j-requires
-point_judged-j-requires c = let l = c.loop-p in record { holds = (c.requires, c.loop-p-test.true); standing = (l.invariant.2, l.invariant.3) }
-
-pub returns-then-is_refused : goal.returns-then-is_refused
-returns-then-is_refused c = refused_all _ _ _ _ c.loop-p-test.true _ c.loop-p.invariant.1 c.point_judged-j.ensures.value (sym c.is_refused.ensures ∙ c.if-is_refused.true)
-
-pub overflow_add-p : goal.overflow_add-p
-overflow_add-p c = let t = c.loop-p-test.true in let few = c.requires.all.few in omega arith
+pub returns-in_err-point_judged : goal.returns-in_err-point_judged
+returns-in_err-point_judged c =
+    let p = err_from_is_err_and c.from_residual.result c.from_residual.ensures.1 in
+    rw (p.1, p.2) (refused_all _ _ _ _ c.loop-p-test.true c.loop-p.invariant _ (sym c.point_judged.ensures ∙ c.in_err-point_judged.was))
 
 pub loop-p-preserved : goal.loop-p-preserved
-loop-p-preserved c =
-    let t = c.loop-p-test.true in
-    (omega arith, accepted-next _ _ _ _ t _ c.loop-p.invariant.1 c.point_judged-j.ensures.value (sym c.is_refused.ensures ∙ c.if-is_refused.false), c.point_judged-j.ensures.standing_2.0, c.point_judged-j.ensures.standing_2.1)
-
-pub returns : goal.returns
-returns c =
-    let e : c.loop-p.p ≡ c.args.n = omega arith in
-    sym (rw e at c.loop-p.invariant.1)
+loop-p-preserved c = accepted-next _ _ _ _ c.loop-p-test.true c.loop-p.invariant (sym c.point_judged.ensures ∙ c.in_ok-point_judged.was)

@@ -1,19 +1,10 @@
--- The loop keeps every point passed accepted. Assumes nothing.
-use Prim.Native.Nat.{◌≤◌, ◌-◌}
-use mathlib.Core.Path.{◌≡◌}
-use Rattle.model.specs.declared.answers.Judgement.TheVariants.{Accepted}
+-- Every point that is passed is accepted. Assumes nothing.
+use Rattle.std.proofs.Common.{◌≡◌}
+use Rattle.model.specs.Types.{accepted}
 use Rattle.model.specs.Limits.{today}
 use Rattle.model.specs.Check.{points_judged}
-use Rattle.facts.specs.Sizes.{edge_stripes}
-use Rattle.facts.specs.StripeRows.{SizedRows}
-use Rattle.facts.specs.Known.{Standing}
 use Rattle.rows_and_places.specs.Points.{points_in}
 use Rattle.obligations.proofs.points.points_judged.Given as goal
 
 abbrev pub invariant-loop-p : goal.invariant-loop-p
-invariant-loop-p l =
-    (l.p ≤ l.n) × (points_judged today (points_in l.rows l.at l.n) l.p ≡ Accepted) × Standing l.stripes 0 × SizedRows l.edge_stripes
-
-abbrev pub decreases-loop-p : goal.decreases-loop-p
-decreases-loop-p l =
-    l.n - l.p
+invariant-loop-p l = points_judged today (points_in l.rows l.at l.n) l.p ≡ accepted

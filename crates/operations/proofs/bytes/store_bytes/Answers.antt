@@ -1,12 +1,5 @@
-use Rattle.operations.proofs.Accesses.{store-none, store-more, store-all}
-use Rattle.std.proofs.Common.{◌-◌}
+use Rattle.operations.proofs.Accesses.{stored}
 use Rattle.operations.proofs.bytes.store_bytes.Goals as goal
 
-pub loop-k-init : goal.loop-k-init
-loop-k-init c = store-none _ _ _ _
-
-pub loop-k-preserved : goal.loop-k-preserved
-loop-k-preserved c = store-more _ _ _ _ c.loop-k.invariant c.loop-k-test.true
-
 pub returns : goal.returns
-returns c = store-all _ _ _ _ c.loop-k.invariant c.loop-k-test.false
+returns g c = stored _ _ _ _ _ c.requires.0 c.requires.1 (rw (← c.to_le_bytes-bytes.ensures) c.copy_from_slice.ensures.after)

@@ -1,40 +1,20 @@
--- The loop keeps the facts equal to those of the claims passed. Assumes nothing.
-use Prim.Native.Nat.{◌-◌}
-use mathlib.Core.Path.{◌≡◌, refl}
-use native.Mathlib.Omega.{arith}
-use native.Mathlib.Numerals.{add-one}
+-- The facts are those of the claims that are passed. Assumes nothing.
+use Rattle.std.proofs.Common.{◌∙◌, add-one}
 use Rattle.model.specs.Limits.{greatest_stripes}
-use Rattle.decoded.proofs.Claims.{claims-none}
-use Rattle.reader.proofs.GatheredClaims.{facts-start, facts-next, stripes-next, gather-room}
+use Rattle.reader.proofs.GatheredClaims.{facts-start, facts-next, stripes-claimed, gather-room}
 use Rattle.reader.proofs.point_facts.facts_of.Goals as goal
 
 pub loop-j-init : goal.loop-j-init
-loop-j-init c = (
-  omega arith,
-  facts-start _ _ _ _ _ c.unclaimed.ensures.high_after,
-  record { ends = c.unclaimed.ensures.ends; stripes = c.requires.standing },
-  rw claims-none refl,
-)
+loop-j-init c = c.clear.ensures ∙ facts-start c.args.rows.now c.args.from
 
-pub claim_at-c-requires : goal.claim_at-c-requires
-claim_at-c-requires c = let long = c.requires.claim_rows.long in omega arith
-
-pub with_claim-m-requires : goal.with_claim-m-requires
-with_claim-m-requires c =
-    let l = c.loop-j in
-    let t = c.loop-j-test.true in
-    record { at_point = l.invariant.2; claim_limited = rw c.claim_at-c.ensures (c.requires.claim_rows.limited l.j t); c_bound = rw (c.claim_at-c.ensures, l.invariant.3) (gather-room c.args.rows.now c.args.from l.j c.args.n greatest_stripes t c.requires.claim_rows.few) }
+pub claim-requires-clause-room : goal.claim-requires-clause-room
+claim-requires-clause-room c =
+    let a = c.args in
+    let at = c.loop-j in
+    rw (at.invariant, c.claim_at.ensures, stripes-claimed) (gather-room a.rows.now a.from at.j a.n greatest_stripes c.loop-j-test.true c.requires.few)
 
 pub loop-j-preserved : goal.loop-j-preserved
 loop-j-preserved c =
-    let l = c.loop-j in (
-      omega arith,
-      rw (add-one l.j, facts-next, ← c.claim_at-c.ensures, ← l.invariant.1) c.with_claim-m.ensures.result_after,
-      c.with_claim-m.ensures.at_point_2,
-      rw (add-one l.j, stripes-next, ← c.claim_at-c.ensures, ← l.invariant.3) c.with_claim-m.ensures.value,
-    )
-
-pub returns : goal.returns
-returns c =
-    let e : c.loop-j.j ≡ c.args.n = omega arith in
-    record { result_after = rw e at c.loop-j.invariant.1; at_point = c.loop-j.invariant.2 }
+    let a = c.args in
+    let at = c.loop-j in
+    rw (add-one at.j, facts-next a.rows.now a.from at.j, ← at.invariant, ← c.claim_at.ensures) c.claim.ensures

@@ -1,15 +1,8 @@
--- The loop keeps the facts equal to those of the claims passed. Assumes nothing.
-use Prim.Native.Nat.{◌≤◌, ◌-◌}
-use mathlib.Core.Path.{◌≡◌}
+-- The facts are those of the claims that are passed. Assumes nothing.
+use Rattle.std.proofs.Common.{◌≡◌}
 use Rattle.model.specs.Facts.{facts_of}
-use Rattle.model.specs.Listing.{stripes_among}
 use Rattle.decoded.specs.Decoded.{claims_from}
-use Rattle.facts.specs.Known.{known, AtPoint}
 use Rattle.reader.proofs.point_facts.facts_of.Given as goal
 
 abbrev pub invariant-loop-j : goal.invariant-loop-j
-invariant-loop-j l =
-    (l.j ≤ l.n) × (known l.low l.high l.stripes l.m ≡ facts_of (claims_from l.rows l.from l.j)) × AtPoint l.low l.high l.stripes l.m × (l.m ≡ stripes_among (claims_from l.rows l.from l.j))
-
-abbrev pub decreases-loop-j : goal.decreases-loop-j
-decreases-loop-j l = l.n - l.j
+invariant-loop-j l = l.facts ≡ facts_of (claims_from l.rows l.from l.j)

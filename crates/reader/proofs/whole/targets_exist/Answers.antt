@@ -1,29 +1,20 @@
 -- The loop keeps the test of the points passed. Assumes nothing.
-use Prim.Native.Nat.{◌-◌}
-use mathlib.Core.Path.{◌≡◌}
-use native.Mathlib.Omega.{arith}
 use native.Mathlib.Numerals.{add-one}
+use Rattle.std.proofs.lemmas.Result.{err_from_is_err_and}
 use Rattle.rows_and_places.proofs.PlacedPoints.{points_none}
-use Rattle.reader.proofs.WholeListing.{targets_next}
+use Rattle.reader.proofs.WholeListing.{targets_next, targets_refused}
 use Rattle.reader.proofs.whole.targets_exist.Goals as goal
 
 pub loop-p-init : goal.loop-p-init
-loop-p-init c = (omega arith, rw points_none)
+loop-p-init c = rw points_none
 
-pub instruction_row-r-requires : goal.instruction_row-r-requires
-instruction_row-r-requires c = c.requires.each _ c.loop-p-test.true
-
-pub line_of-requires : goal.line_of-requires
-line_of-requires c = let q = c.requires.each _ c.loop-p-test.true in (q.places, q.few)
-
-pub overflow_add-p : goal.overflow_add-p
-overflow_add-p c = let few = c.requires.few in omega arith
+pub returns-in_err-own_target_exists : goal.returns-in_err-own_target_exists
+returns-in_err-own_target_exists c =
+    let p = err_from_is_err_and c.from_residual.result c.from_residual.ensures.1 in
+    let own = rw (c.line_of.ensures, c.instruction_row.ensures) at c.in_err-own_target_exists.ensures in
+    rw (p.1, p.2) (targets_refused _ _ _ _ _ c.loop-p-test.true c.loop-p.invariant own)
 
 pub loop-p-preserved : goal.loop-p-preserved
 loop-p-preserved c =
-    (omega arith, rw (add-one, targets_next, c.and_then-j.ensures, c.own_target_exists.ensures, c.instruction_row-r.ensures, c.line_of.ensures, c.loop-p.invariant.1))
-
-pub returns : goal.returns
-returns c =
-    let e : c.loop-p.p ≡ c.args.n = omega arith in
-    rw e at c.loop-p.invariant.1
+    let own = rw (c.line_of.ensures, c.instruction_row.ensures) at c.in_ok-own_target_exists.ensures in
+    rw (add-one, targets_next, ← c.loop-p.invariant) own

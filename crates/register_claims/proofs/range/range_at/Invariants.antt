@@ -1,12 +1,8 @@
 -- The loop keeps the range of the claims passed. Assumes nothing.
-use Prim.Native.Nat.{◌≤◌, ◌-◌}
 use Rattle.model.specs.Facts.{facts_of}
 use Rattle.decoded.specs.Decoded.{claims_from}
 use Rattle.register_claims.proofs.ClaimedRange.{Held}
 use Rattle.register_claims.proofs.range.range_at.Given as goal
 
 abbrev pub invariant-loop-j : goal.invariant-loop-j
-invariant-loop-j l = (l.j ≤ l.n) × Held l.r (facts_of (claims_from l.rows l.from l.j)) l.v
-
-abbrev pub decreases-loop-j : goal.decreases-loop-j
-decreases-loop-j l = l.n - l.j
+invariant-loop-j l = Held l.r (facts_of (claims_from l.rows l.from l.j)) l.v

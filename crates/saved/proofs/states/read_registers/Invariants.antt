@@ -1,11 +1,8 @@
-use Prim.Native.Nat.{◌≤◌, ◌-◌}
-use mathlib.Core.Path.{◌≡◌}
-use Rattle.model.specs.Limits as Limits
+-- The loop's invariant: the registers passed are read. Assumes nothing.
+use Rattle.std.proofs.Common.{◌≡◌}
+use Rattle.std.specs.Prelude.{Some}
 use Rattle.saved.specs.States.{registers_to}
 use Rattle.saved.proofs.states.read_registers.Given as goal
 
 abbrev pub invariant-loop-v : goal.invariant-loop-v
-invariant-loop-v l = (l.v ≤ Limits.registers) × (l.r ≡ registers_to l.text l.v)
-
-abbrev pub decreases-loop-v : goal.decreases-loop-v
-decreases-loop-v l = Limits.registers - l.v
+invariant-loop-v l = registers_to l.text l.v ≡ Some l.registers

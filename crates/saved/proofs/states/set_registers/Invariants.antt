@@ -1,12 +1,7 @@
-use Prim.Native.Nat.{◌≤◌, ◌-◌}
-use mathlib.Core.Path.{◌≡◌}
-use lib.ListN.{length}
-use Rattle.model.specs.Limits as Limits
+-- The loop's invariant: the lines of the registers passed are set. Assumes nothing.
+use Rattle.std.proofs.Common.{◌≡◌, length}
 use Rattle.saved.specs.States.{registers_set}
 use Rattle.saved.proofs.states.set_registers.Given as goal
 
 abbrev pub invariant-loop-v : goal.invariant-loop-v
-invariant-loop-v l = (l.v ≤ Limits.registers) × (length l.text ≡ length l.initial.text) × (l.text ≡ registers_set l.initial.text l.registers l.v)
-
-abbrev pub decreases-loop-v : goal.decreases-loop-v
-decreases-loop-v l = Limits.registers - l.v
+invariant-loop-v l = (length l.text ≡ length l.initial.text) × (l.text ≡ registers_set l.initial.text l.registers l.v)

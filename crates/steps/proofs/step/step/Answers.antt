@@ -1,10 +1,11 @@
 use Rattle.steps.proofs.InstructionSteps.{divisor, load-room, stor-room, stop-stepped, setc-stepped, copy-stepped, addw-stepped, subw-stepped, mulw-stepped, divf-stepped, load-stepped, stor-stepped, jump-stepped, bltu-stepped, bequ-stepped, divm-divisor, divm-stepped, steppable-as, stepped-as}
+use Rattle.std.proofs.Common.{refl, rules}
 use Rattle.steps.proofs.step.step.Goals as goal
 
-pub divide-requires : goal.divide-requires
-divide-requires c =
+pub compute-requires-in-Divf-clause-callable : goal.compute-requires-in-Divf-clause-callable
+compute-requires-in-Divf-clause-callable c =
     let h = steppable-as c.in-Divf.is c.requires in
-    (h.point, h.limited.register, h.limited.variable, h.limited.operand, divisor _ _ _ h.values _ _ _ h.safe)
+    divisor _ _ _ h.values _ _ _ h.safe
 
 pub load_to-requires : goal.load_to-requires
 load_to-requires c =
@@ -29,43 +30,43 @@ pub returns-in-Setc : goal.returns-in-Setc
 returns-in-Setc c =
     let e = c.in-Setc.is in
     let h = steppable-as e c.requires in
-    rw (c.put.ensures.point, c.put.ensures.values) (stepped-as e (setc-stepped _ _ _ h.values _ _ h.limited.0))
+    stepped-as e (setc-stepped _ _ _ h.values _ _ h.limited.0 c.put.ensures refl)
 
 pub returns-in-Copy : goal.returns-in-Copy
 returns-in-Copy c =
     let e = c.in-Copy.is in
     let h = steppable-as e c.requires in
-    rw (c.copy.ensures.point, c.copy.ensures.values) (stepped-as e (copy-stepped _ _ _ h.values _ _ h.limited.0))
+    stepped-as e (copy-stepped _ _ _ h.values _ _ h.limited.0 c.copy.ensures refl)
 
 pub returns-in-Addw : goal.returns-in-Addw
 returns-in-Addw c =
     let e = c.in-Addw.is in
     let h = steppable-as e c.requires in
-    rw (c.add.ensures.point, c.add.ensures.values) (stepped-as e (addw-stepped _ _ _ h.values _ _ _ h.limited.register))
+    stepped-as e (addw-stepped _ _ _ h.values _ _ _ h.limited.register c.compute.ensures.2 (search rules))
 
 pub returns-in-Subw : goal.returns-in-Subw
 returns-in-Subw c =
     let e = c.in-Subw.is in
     let h = steppable-as e c.requires in
-    rw (c.subtract.ensures.point, c.subtract.ensures.values) (stepped-as e (subw-stepped _ _ _ h.values _ _ _ h.limited.register))
+    stepped-as e (subw-stepped _ _ _ h.values _ _ _ h.limited.register c.compute-in-Subw.ensures.2 (search rules))
 
 pub returns-in-Mulw : goal.returns-in-Mulw
 returns-in-Mulw c =
     let e = c.in-Mulw.is in
     let h = steppable-as e c.requires in
-    rw (c.multiply.ensures.point, c.multiply.ensures.values) (stepped-as e (mulw-stepped _ _ _ h.values _ _ _ h.limited.register))
+    stepped-as e (mulw-stepped _ _ _ h.values _ _ _ h.limited.register c.compute-in-Mulw.ensures.2 (search rules))
 
 pub returns-in-Divf : goal.returns-in-Divf
 returns-in-Divf c =
     let e = c.in-Divf.is in
     let h = steppable-as e c.requires in
-    rw (c.divide.ensures.point, c.divide.ensures.values) (stepped-as e (divf-stepped _ _ _ h.values _ _ _ h.limited.register (divisor _ _ _ h.values _ _ _ h.safe)))
+    stepped-as e (divf-stepped _ _ _ h.values _ _ _ h.limited.register (divisor _ _ _ h.values _ _ _ h.safe) c.compute-in-Divf.ensures.2 (search rules))
 
 pub returns-in-Load : goal.returns-in-Load
 returns-in-Load c =
     let e = c.in-Load.is in
     let h = steppable-as e c.requires in
-    rw (c.load_to.ensures.point, c.load_to.ensures.values) (stepped-as e (load-stepped _ _ _ h.values _ _ _ _ _ _ h.limited.0 (load-room _ _ _ h.values _ _ _ _ _ _ h.safe)))
+    stepped-as e (load-stepped _ _ _ h.values _ _ _ _ _ _ h.limited.0 (load-room _ _ _ h.values _ _ _ _ _ _ h.safe) c.load_to.ensures refl)
 
 pub returns-in-Stor : goal.returns-in-Stor
 returns-in-Stor c =
@@ -83,13 +84,13 @@ pub returns-in-Bltu : goal.returns-in-Bltu
 returns-in-Bltu c =
     let e = c.in-Bltu.is in
     let h = steppable-as e c.requires in
-    rw c.if_less.ensures (stepped-as e (bltu-stepped _ _ _ h.values _ _ _))
+    stepped-as e (bltu-stepped _ _ _ h.values _ _ _ (search rules) c.branch-values.ensures.2)
 
 pub returns-in-Bequ : goal.returns-in-Bequ
 returns-in-Bequ c =
     let e = c.in-Bequ.is in
     let h = steppable-as e c.requires in
-    rw c.if_equal.ensures (stepped-as e (bequ-stepped _ _ _ h.values _ _ _))
+    stepped-as e (bequ-stepped _ _ _ h.values _ _ _ (search rules) c.branch-values-in-Bequ.ensures.2)
 
 pub returns-in-Divm : goal.returns-in-Divm
 returns-in-Divm c =

@@ -1,24 +1,16 @@
--- The loop keeps the judgement of the points passed. Assumes nothing.
-use Prim.Native.Nat.{◌-◌}
-use mathlib.Core.Path.{◌≡◌}
-use native.Mathlib.Omega.{arith}
+-- Every point that is passed is accepted. Assumes nothing.
 use native.Mathlib.Numerals.{add-one}
-use Rattle.ways_back.proofs.CoveredPoints.{edges_none, edges-next}
+use Rattle.std.proofs.lemmas.Result.{err_from_is_err_and}
+use Rattle.ways_back.proofs.CoveredPoints.{edges_none, edges-accepted, edges-refused}
 use Rattle.ways_back.proofs.covered.edges_covered.Goals as goal
 
 pub loop-p-init : goal.loop-p-init
-loop-p-init c = (omega arith, edges_none _ _ _)
+loop-p-init c = edges_none _ _ _
 
-pub edge_covered-one-requires : goal.edge_covered-one-requires
-edge_covered-one-requires c = record { all_placed = (c.requires.all_placed, c.loop-p-test.true); covering = c.requires.covering }
-
-pub overflow_add-p : goal.overflow_add-p
-overflow_add-p c = let few = c.requires.all_placed.few in omega arith
+pub returns-in_err-edge_covered : goal.returns-in_err-edge_covered
+returns-in_err-edge_covered c =
+    let p = err_from_is_err_and c.from_residual.result c.from_residual.ensures.1 in
+    rw (p.1, p.2) (edges-refused _ _ _ _ _ c.loop-p-test.true c.loop-p.invariant c.in_err-edge_covered.ensures)
 
 pub loop-p-preserved : goal.loop-p-preserved
-loop-p-preserved c = (omega arith, rw (add-one, edges-next _ _ _ _ c.loop-p-test.true, c.and_then-j.ensures, c.edge_covered-one.ensures, c.loop-p.invariant.1))
-
-pub returns : goal.returns
-returns c =
-    let e : c.loop-p.p ≡ c.args.n = omega arith in
-    rw e at c.loop-p.invariant.1
+loop-p-preserved c = rw add-one (edges-accepted _ _ _ _ c.loop-p-test.true c.loop-p.invariant c.in_ok-edge_covered.ensures)

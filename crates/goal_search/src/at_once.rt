@@ -1,0 +1,58 @@
+// Whether a goal follows with no link.
+ghost use Rattle.std.specs.Prelude.{◌≡◌};
+ghost use Rattle.std.specs.List.{list_any};
+ghost use Rattle.model.specs.declared.claims.Stripe.{Stripe};
+ghost use Rattle.model.specs.Transfer.{stripe};
+ghost use Rattle.model.specs.Follows as Model;
+ghost use Rattle.facts.specs.Sizes.{Room, Small};
+
+use facts::known::Known;
+use facts::sizes::scaled;
+use model::claims::Stripe;
+
+// Whether the ranges alone show the goal. The low end of an impossible edge may be so great that the sum would wrap; the goal holds then.
+fn by_ranges(known: &Known, x: u64, a: u16, y: u64, z: u64, plus: u64, minus: u64) -> bool
+    requires { Room 0 (stripe x a y z plus minus) }
+    ensures { result ≡ Model.by_ranges known.now.ranges (stripe x a y z plus minus) }
+{
+    let top = known.ranges.get(y as usize).hi + known.ranges.get(z as usize).hi;
+    scaled(a, top) + plus <= known.ranges.get(x as usize).lo.saturating_add(minus)
+}
+
+// Whether the stripe stands for the goal.
+fn covers(s: &Stripe, x: u64, a: u16, y: u64, z: u64, plus: u64, minus: u64) -> bool
+    requires small { Small s.now }
+    requires room { Room 0 (stripe x a y z plus minus) }
+    ensures { result ≡ Model.covers s.now (stripe x a y z plus minus) }
+{
+    if s.x as u64 != x {
+        return false;
+    }
+    let v = s.y as u64;
+    let u = s.z as u64;
+    let bound = plus + s.minus <= s.plus + minus;
+    (s.a == a) & ((v == y) & (u == z) | (v == z) & (u == y)) & bound
+}
+
+// Whether one of the stripes stands for the goal.
+fn stands(known: &Known, x: u64, a: u16, y: u64, z: u64, plus: u64, minus: u64) -> bool
+    requires { Room 0 (stripe x a y z plus minus) }
+    ensures { result ≡ list_any (λ (s : Stripe). Model.covers s (stripe x a y z plus minus)) known.now.stripes }
+{
+    known
+        .stripes
+        .as_slice()
+        .iter()
+        .any(|s| covers(s, x, a, y, z, plus, minus))
+}
+
+// Whether the goal follows with no link.
+pub fn at_once(known: &Known, x: u64, a: u16, y: u64, z: u64, plus: u64, minus: u64) -> bool
+    requires { Room 0 (stripe x a y z plus minus) }
+    ensures { result ≡ Model.at_once known.now (stripe x a y z plus minus) }
+{
+    if by_ranges(known, x, a, y, z, plus, minus) {
+        return true;
+    }
+    stands(known, x, a, y, z, plus, minus)
+}

@@ -1,3 +1,0 @@
-pub mod PrintedLine
-pub mod RunLine
-pub mod BoundLine

@@ -1,9 +1,0 @@
-use mathlib.Core.Path.{◌∙◌}
-use Rattle.step_bound.proofs.JudgedBound.{bound-refused, bound-accepted}
-use Rattle.step_bound.proofs.bound_in.Goals as goal
-
-pub returns-in-Refused : goal.returns-in-Refused
-returns-in-Refused c = bound-refused _ _ _ _ c.judged_listing-l.ensures _ c.in-Refused.is
-
-pub returns-in-Accepted : goal.returns-in-Accepted
-returns-in-Accepted c = c.points_bound.ensures ∙ bound-accepted _ _ _ _ c.judged_listing-l.ensures c.in-Accepted.is
