@@ -32,10 +32,10 @@ fn ended(report: Report, point: usize, values: [u32; VARIABLES], steps: u32) -> 
 }
 
 // Whether an instruction is STOP.
-fn is_stop(instruction: Instruction) -> bool
-    ensures { result ≡ is_stop instruction }
+fn is_stop(instruction: &Instruction) -> bool
+    ensures { result ≡ is_stop instruction.now }
 {
-    matches!(instruction, Instruction::Stop)
+    matches!(*instruction, Instruction::Stop)
 }
 
 // The run of a listing that passes, by the code of its points, from a state that nothing turns back.
@@ -56,8 +56,9 @@ pub fn run_code(
     let mut values = values_of(start.registers, words(sizes));
     let mut point = start.point;
     let mut made: u32 = 0;
+    // No `for`: the loop has two ends, and the steps made are reported at both.
     loop {
-        let instruction = code[point];
+        let instruction = &code[point];
         if is_stop(instruction) {
             return ended(Report::Stopped, point, values, made);
         }

@@ -130,16 +130,16 @@ fn branch<F: FnOnce(u32, u32) -> bool>(
 
 // One step: the point that it leads to. The values and the results are changed in place.
 pub fn step(
-    instruction: Instruction,
+    instruction: &Instruction,
     point: usize,
     values: &mut [u32; VARIABLES],
     trays: &[u8],
     results: &mut [u8],
 ) -> usize
-    requires { Steppable instruction point values.old (lent trays.now results.old) }
-    ensures { Stepped instruction point values.old (lent trays.now results.old) result values.new (lent trays.now results.new) }
+    requires { Steppable instruction.now point values.old (lent trays.now results.old) }
+    ensures { Stepped instruction.now point values.old (lent trays.now results.old) result values.new (lent trays.now results.new) }
 {
-    match instruction {
+    match *instruction {
         Instruction::Stop => point,
         Instruction::Setc { d, c } => put(values, d, c, point),
         Instruction::Copy { d, i } => copy(values, point, d, i),
