@@ -30,6 +30,10 @@ judged_place (Err r) = place_of r
 abbrev pub judged_answer : Judgement → List ℕ
 judged_answer j = judged_number j ∷ judged_place j ∷ []
 
+-- the same, then offset and length of a part
+abbrev pub judged_part_answer : Judgement → ℕ → ℕ → List ℕ
+judged_part_answer j offset length = judged_number j ∷ judged_place j ∷ offset ∷ length ∷ []
+
 -- the answer for claim lines: number and place, then offset and length of the part. No refusal of that call has a second place
 abbrev pub part_answer : Result ClaimPart Refusal → List ℕ
 part_answer (Ok c) = 0 ∷ 0 ∷ c.offset ∷ c.length ∷ []

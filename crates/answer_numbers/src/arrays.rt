@@ -1,6 +1,6 @@
 // The answers as arrays of numbers, for C and Rust.
 ghost use Rattle.std.specs.Prelude.{◌≡◌};
-ghost use Rattle.answer_numbers.specs.Arrays.{answer_of, judged_answer, part_answer, run_answer};
+ghost use Rattle.answer_numbers.specs.Arrays.{answer_of, judged_answer, judged_part_answer, part_answer, run_answer};
 
 use crate::refusal::numbers;
 use model::answers::{ClaimPart, Judgement, Refusal, Report};
@@ -31,16 +31,21 @@ pub fn judgement_numbers(j: Judgement) -> [u64; 2]
     }
 }
 
+// Whether a call is turned back, and a part of a listing, as four numbers.
+pub fn judged_part_numbers(j: Judgement, offset: usize, length: usize) -> [u64; 4]
+    ensures { result ≡ judged_part_answer j offset length }
+{
+    let x = judgement_numbers(j);
+    [x[0], x[1], offset as u64, length as u64]
+}
+
 // Where claim lines stand, as four numbers.
 pub fn part_numbers(part: Result<ClaimPart, Refusal>) -> [u64; 4]
     ensures { result ≡ part_answer part }
 {
     match part {
-        Ok(c) => [0, 0, c.offset as u64, c.length as u64],
-        Err(r) => {
-            let x = numbers(r);
-            [x.number, x.place, 0, 0]
-        }
+        Ok(c) => judged_part_numbers(Ok(()), c.offset, c.length),
+        Err(r) => judged_part_numbers(Err(r), 0, 0),
     }
 }
 

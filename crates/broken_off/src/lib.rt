@@ -101,7 +101,8 @@ fn place_state(rt: HostRuntime, state_new: &[u8]) {
         write_all(
             rt.stderr(),
             &[
-                b"run_listing: a run was broken off after it had replaced the results; renamed ",
+                b"run_listing: ",
+                b"a run was broken off after it had replaced the results; renamed ",
                 state_new,
                 b" to ",
                 state,

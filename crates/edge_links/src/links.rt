@@ -10,12 +10,11 @@ use facts::stripes::StripeList;
 use model::claims::Stripe;
 use model::limits::BLANK_VARIABLE;
 
-// What is known along an edge, and the links among its stripes.
+// What is known along an edge, and the links that are tried there.
 #[derive(Clone, Copy)]
 pub struct Linked<'a> {
     pub known: &'a Known,
     pub links: &'a StripeList,
-    pub ghost gathered: { Gathered links.now known.now.stripes },
 }
 
 // Whether the stripe is a link: its y can be replaced by its x.

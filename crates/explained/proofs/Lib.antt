@@ -1,2 +1,3 @@
 pub mod ShownLine
 pub mod TrimmedText
+pub mod TrimmedWords

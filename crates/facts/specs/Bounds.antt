@@ -20,8 +20,12 @@ pub record HighWords (rs : List Range) : Type 0 where
   pub long : length rs ≡ variables
   pub highs : (v : ℕ) → hi rs v ≤ MAX
 
+-- every low end is a value of a register, as at a point, and along an edge that is possible
+abbrev pub LowWords : List Range → Type 0
+LowWords rs = (v : ℕ) → lo rs v ≤ MAX
+
 -- what the claims of a point can state: low ends are values of a register too, and the stripes are those that lines can hold
 pub record AtPoint (f : Facts) : Type 0 where
-  pub lows : (v : ℕ) → lo f.ranges v ≤ MAX
+  pub lows : LowWords f.ranges
   pub limited : All StripeLimited f.stripes
   pub few : length f.stripes ≤ greatest_stripes

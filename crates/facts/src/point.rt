@@ -7,7 +7,7 @@ ghost use Rattle.model.specs.Facts.{with_claim, range_of, non_empty};
 ghost use Rattle.model.specs.Listing.{stripes_among};
 ghost use Rattle.model.specs.Transfer.{operand_range};
 ghost use Rattle.model.specs.Limited.{StripeLimited, ClaimLimited};
-ghost use Rattle.facts.specs.Bounds.{Word, unwritten};
+ghost use Rattle.facts.specs.Bounds.{Word, LowWords, unwritten};
 
 use crate::known::Known;
 use crate::pair::Pair;
@@ -75,7 +75,7 @@ impl PointFacts {
 
     // The same, within the wider bounds of an edge.
     pub fn known(&self) -> &Known
-        ensures { result.now ≡ self.now }
+        ensures { (result.now ≡ self.now) × LowWords result.now.ranges }
     {
         &self.known
     }
@@ -125,7 +125,8 @@ impl PointFacts {
 
     // The ranges of a variable and of an operand.
     pub fn pair(&self, i: usize, o: Operand) -> Pair
-        ensures { (result.r ≡ range_of self.now.ranges i) × (result.q ≡ operand_range self.now.ranges o) }
+        ensures same { (result.r ≡ range_of self.now.ranges i) × (result.q ≡ operand_range self.now.ranges o) }
+        ensures words { Word result.r × Word result.q }
     {
         Pair {
             r: self.range(i),

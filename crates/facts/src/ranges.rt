@@ -1,8 +1,9 @@
 // A range for each variable.
-ghost use Rattle.std.specs.Prelude.{◌≡◌, ◌<◌, ◌≤◌, replicate, slice_set};
+ghost use Rattle.std.specs.Prelude.{◌≡◌, true, ◌<◌, ◌≤◌, replicate, slice_set};
 ghost use Rattle.model.specs.Limits.{variables, MAX};
 ghost use Rattle.model.specs.Facts as Model;
 ghost use Rattle.model.specs.Facts.{exactly, range_of, non_empty};
+ghost use Rattle.facts.specs.Bounds.{LowWords};
 
 use model::claims::Range;
 use model::limits::VARIABLES;
@@ -91,9 +92,9 @@ impl Ranges {
         copy(&mut self.ranges, &others.ranges);
     }
 
-    // Whether no range is empty.
+    // Whether no range is empty. Low ends are values of a register then.
     pub fn is_possible(&self) -> bool
-        ensures { result ≡ non_empty self.now }
+        ensures { (result ≡ non_empty self.now) × (result ≡ true → LowWords self.now) }
     {
         let mut every = true;
         for r in &self.ranges {

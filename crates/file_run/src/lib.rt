@@ -1,13 +1,13 @@
 // The run of the bytes of four files, with what it prints and saves.
 #![tactic(auto)]
 
-ghost use Rattle.std.specs.Prelude.{◌≡◌, length};
-ghost use Rattle.run_parts.specs.FileRun.{Leaves};
-ghost use Rattle.run_parts.specs.OverInputs.{run_over};
+ghost use Rattle.std.specs.Prelude.{IsSome};
+ghost use Rattle.saved.specs.Numbers.{number_in};
+ghost use Rattle.saved.specs.States.{saved_in};
+ghost use Rattle.run_parts.specs.FileRun.{run_of, Leaves};
 
 use model::answers::Report;
 use output::run_line::answer_line;
-use run_parts::Inputs;
 use saved::numbers::parse;
 use saved::states::{read_state, write_state};
 
@@ -19,15 +19,15 @@ pub struct Made {
     pub state: [u8; 680],
 }
 
-// The run of the bytes that were read. The results after it are put into a slice of their length.
-pub fn run_of(inputs: &Inputs, results: &mut [u8]) -> Made
-    requires { length results.old ≡ length inputs.now.results.now }
-    ensures { Leaves (run_over inputs.now) result.report results.new result.state result.line }
+// The run of the bytes that were read, where the text is a state and the budget a number. It changes the results where they lie.
+pub fn run_of(listing: &[u8], trays: &[u8], results: &mut [u8], text: &[u8], budget: &[u8]) -> Made
+    requires state_given { IsSome (saved_in text.now) }
+    requires budget_given { IsSome (number_in budget.now) }
+    ensures { Leaves (run_of listing.now trays.now results.old text.now budget.now) result.report results.new result.state result.line }
 {
-    results.copy_from_slice(inputs.results);
-    let state = read_state(inputs.state).unwrap();
-    let budget = parse(inputs.budget).unwrap();
-    let o = runner::run(inputs.listing, state, inputs.trays, results, budget);
+    let state = read_state(text).unwrap();
+    let steps = parse(budget).unwrap();
+    let o = runner::run(listing, state, trays, results, steps);
     let end = o.state;
     Made {
         report: o.report,

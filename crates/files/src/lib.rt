@@ -52,7 +52,7 @@ fn open_read(rt: HostRuntime, path: &[u8]) -> io::Result<File> {
 }
 
 // Opens a file for reading, or says why it cannot be.
-fn open(rt: HostRuntime, path: &[u8]) -> Result<File, Reported> {
+pub fn open(rt: HostRuntime, path: &[u8]) -> Result<File, Reported> {
     if path.is_empty() {
         say(rt.stderr(), b"an argument", b"it is empty or too long");
         return Err(Reported);

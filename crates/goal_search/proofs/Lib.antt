@@ -3,3 +3,4 @@ pub mod SomeElement
 pub mod FollowsCases
 pub mod ExchangedVariables
 pub mod SmallerBounds
+pub mod GatheredLinks

@@ -1,8 +1,8 @@
 -- Whether some element of a list passes a test. Assumes nothing.
-use Rattle.std.proofs.Common.{◌≡◌, refl, ap, ap₂, ℕ, zero, suc, ◌+◌, ◌<◌, ◌≤◌, Bool, true, false, ◌||◌, List, [], ◌∷◌, length, take, get_or, arith}
+use Rattle.std.proofs.Common.{◌≡◌, refl, ap, ap₂, ℕ, zero, suc, ◌+◌, ◌<◌, ◌≤◌, Bool, true, false, ◌&&◌, ◌||◌, cond, List, [], ◌∷◌, length, take, get_or, arith}
 use Rattle.std.proofs.lemmas.List.{take_more, take_all}
 use Rattle.std.specs.List.{list_any}
-use Rattle.model.specs.Lists.{some}
+use Rattle.model.specs.Lists.{some, kept}
 use Rattle.model.proofs.Tests.{or_cases, or-first, or-true}
 use Rattle.edge_links.proofs.BetterLinks.{some-more}
 
@@ -25,6 +25,16 @@ module _ {A : Type 0} where
   some-weaker p q f [] e = e
   some-weaker p q f (x ∷ xs) e =
       or_cases (p x) (some p xs) e (λ h. or-first (q x) (some q xs) (f x h)) (λ h. or-true (q x) (some-weaker p q f xs h))
+
+  -- a test of the elements that are kept
+  pub some-kept : (p q : A → Bool) (xs : List A) → some p (kept q xs) ≡ some (λ (x : A). q x && p x) xs
+  unfolding some kept
+  some-kept p q [] = refl
+  some-kept p q (x ∷ xs) = go (q x) (some-kept p q xs)
+    where
+      go : (b : Bool) → some p (kept q xs) ≡ some (λ (t : A). q t && p t) xs → some p (cond b (x ∷ kept q xs) (kept q xs)) ≡ (b && p x || some (λ (t : A). q t && p t) xs)
+      go true e = ap (λ (b : Bool). p x || b) e
+      go false e = e
 
   -- an element that passes is found
   pub some-hit : (p : A → Bool) (xs : List A) (i : ℕ) (d : A) → i < length xs → p (get_or xs i d) ≡ true → some p xs ≡ true

@@ -1,7 +1,9 @@
 // Whether a goal follows with no link.
-ghost use Rattle.std.specs.Prelude.{◌≡◌};
+ghost use Rattle.std.specs.Prelude.{◌≡◌, ◌≤◌};
 ghost use Rattle.std.specs.List.{list_any};
 ghost use Rattle.model.specs.declared.claims.Stripe.{Stripe};
+ghost use Rattle.model.specs.Limits.{MAX};
+ghost use Rattle.model.specs.Facts.{lo};
 ghost use Rattle.model.specs.Transfer.{stripe};
 ghost use Rattle.model.specs.Follows as Model;
 ghost use Rattle.facts.specs.Sizes.{Room, Small};
@@ -10,13 +12,14 @@ use facts::known::Known;
 use facts::sizes::scaled;
 use model::claims::Stripe;
 
-// Whether the ranges alone show the goal. The low end of an impossible edge may be so great that the sum would wrap; the goal holds then.
+// Whether the ranges alone show the goal. No sum is tested: both stay below 2^61.
 fn by_ranges(known: &Known, x: u64, a: u16, y: u64, z: u64, plus: u64, minus: u64) -> bool
-    requires { Room 0 (stripe x a y z plus minus) }
+    requires low { lo known.now.ranges x ≤ MAX }
+    requires room { Room 0 (stripe x a y z plus minus) }
     ensures { result ≡ Model.by_ranges known.now.ranges (stripe x a y z plus minus) }
 {
     let top = known.ranges.get(y as usize).hi + known.ranges.get(z as usize).hi;
-    scaled(a, top) + plus <= known.ranges.get(x as usize).lo.saturating_add(minus)
+    scaled(a, top) + plus <= known.ranges.get(x as usize).lo + minus
 }
 
 // Whether the stripe stands for the goal.
@@ -48,7 +51,8 @@ fn stands(known: &Known, x: u64, a: u16, y: u64, z: u64, plus: u64, minus: u64) 
 
 // Whether the goal follows with no link.
 pub fn at_once(known: &Known, x: u64, a: u16, y: u64, z: u64, plus: u64, minus: u64) -> bool
-    requires { Room 0 (stripe x a y z plus minus) }
+    requires low { lo known.now.ranges x ≤ MAX }
+    requires room { Room 0 (stripe x a y z plus minus) }
     ensures { result ≡ Model.at_once known.now (stripe x a y z plus minus) }
 {
     if by_ranges(known, x, a, y, z, plus, minus) {

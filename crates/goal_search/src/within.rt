@@ -1,18 +1,21 @@
 // Whether a goal follows within so many links. A goal is passed as six numbers, which stay in registers: as a struct it took 67 µs and not 58.
-ghost use Rattle.std.specs.Prelude.{◌≡◌, ◌+◌};
-ghost use Rattle.model.specs.Lists.{some};
+ghost use Rattle.std.specs.Prelude.{◌≡◌, ◌+◌, ◌≤◌};
+ghost use Rattle.model.specs.Limits.{MAX};
+ghost use Rattle.model.specs.Facts.{lo};
 ghost use Rattle.model.specs.Transfer.{stripe};
 ghost use Rattle.model.specs.Follows as Model;
-ghost use Rattle.model.specs.Follows.{through_link};
 ghost use Rattle.facts.specs.Sizes.{Room, Small};
-ghost use Rattle.goal_search.specs.Goal.{by_link};
+ghost use Rattle.edge_links.specs.Links.{Gathered};
+ghost use Rattle.goal_search.specs.Goal;
+ghost use Rattle.goal_search.specs.Goal.{by_link, by_some_link};
 
 use crate::at_once::at_once;
 use edge_links::links::Linked;
 use facts::sizes::scaled;
 use model::claims::Stripe;
 
-// Whether the goal follows within `left` links; their number falls at each use of one.
+// Whether the goal follows within `left` uses of the links that are lent; their number falls at each use of one.
+// Where these are the links among the stripes, that is whether it follows from what is known.
 #[cycle(follows_linked_through)]
 pub fn follows(
     edge: &Linked,
@@ -24,8 +27,10 @@ pub fn follows(
     minus: u64,
     left: usize,
 ) -> bool
-    requires { Room left (stripe x a y z plus minus) }
-    ensures { result ≡ Model.follows edge.now.known.now left (stripe x a y z plus minus) }
+    requires low { lo edge.now.known.now.ranges x ≤ MAX }
+    requires room { Room left (stripe x a y z plus minus) }
+    ensures by_links { result ≡ Goal.follows (Model.at_once edge.now.known.now) edge.now.links.now left (stripe x a y z plus minus) }
+    ensures gathered { Gathered edge.now.links.now edge.now.known.now.stripes → result ≡ Model.follows edge.now.known.now left (stripe x a y z plus minus) }
 {
     if at_once(edge.known, x, a, y, z, plus, minus) {
         return true;
@@ -39,8 +44,9 @@ pub fn follows(
 // Whether the goal follows by a link and at most `left` more.
 #[cycle(follows_linked_through)]
 fn linked(edge: &Linked, x: u64, a: u16, y: u64, z: u64, plus: u64, minus: u64, left: usize) -> bool
-    requires { Room (left + 1) (stripe x a y z plus minus) }
-    ensures { result ≡ some (through_link (Model.follows edge.now.known.now left) (stripe x a y z plus minus)) edge.now.known.now.stripes }
+    requires low { lo edge.now.known.now.ranges x ≤ MAX }
+    requires room { Room (left + 1) (stripe x a y z plus minus) }
+    ensures { result ≡ by_some_link (Goal.follows (Model.at_once edge.now.known.now) edge.now.links.now left) edge.now.links.now (stripe x a y z plus minus) }
 {
     for l in edge.links.as_slice() {
         let v = l.y as u64;
@@ -66,9 +72,10 @@ fn through(
     minus: u64,
     left: usize,
 ) -> bool
+    requires low { lo edge.now.known.now.ranges x ≤ MAX }
     requires small { Small l.now }
     requires room { Room (left + 1) (stripe x a y z plus minus) }
-    ensures { result ≡ by_link (Model.follows edge.now.known.now left) (stripe x a y z plus minus) l.now }
+    ensures { result ≡ by_link (Goal.follows (Model.at_once edge.now.known.now) edge.now.links.now left) (stripe x a y z plus minus) l.now }
 {
     let more = plus + scaled(a, l.minus);
     let less = minus + scaled(a, l.plus);

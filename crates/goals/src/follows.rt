@@ -4,6 +4,7 @@ ghost use Rattle.model.specs.Limits.{greatest_links};
 ghost use Rattle.model.specs.Follows;
 ghost use Rattle.model.specs.Follows.{claim_follows};
 ghost use Rattle.model.specs.Limited.{ClaimLimited};
+ghost use Rattle.facts.specs.Bounds.{LowWords};
 ghost use Rattle.facts.specs.Sizes.{Room};
 
 use edge_links::links::{Linked, gather};
@@ -16,7 +17,8 @@ use model::limits::GREATEST_LINKS;
 
 // Whether the goal follows within three links. The links are gathered only for a goal that does not follow at once.
 pub fn goal_follows(known: &Known, g: Stripe) -> bool
-    requires { Room greatest_links g }
+    requires lows { LowWords known.now.ranges }
+    requires room { Room greatest_links g }
     ensures { result ≡ Follows.follows known.now greatest_links g }
 {
     let x = g.x as u64;
@@ -37,7 +39,8 @@ pub fn goal_follows(known: &Known, g: Stripe) -> bool
 // Whether a claim follows.
 #[tactic(auto, unfolding(model::specs::Follows::claim_follows))]
 pub fn claim_follows(known: &Known, c: Claim) -> bool
-    requires { ClaimLimited c }
+    requires lows { LowWords known.now.ranges }
+    requires limited { ClaimLimited c }
     ensures { result ≡ claim_follows known.now c }
 {
     match c {

@@ -1,12 +1,14 @@
 // Refusal 14: the claims of a point that do not follow along an edge to it.
 #![tactic(auto)]
 
-ghost use Rattle.std.specs.Prelude.{◌≡◌, ◌+◌, ◌≤◌};
+ghost use Rattle.std.specs.Prelude.{◌≡◌, true, cond, ◌+◌, ◌≤◌};
+ghost use Rattle.model.specs.Types.{accepted};
 ghost use Rattle.model.specs.Limits.{greatest_lines, today};
 ghost use Rattle.model.specs.Transfer.{facts_along};
 ghost use Rattle.model.specs.Follows.{first_lost};
 ghost use Rattle.model.specs.Check.{claims_judged};
 ghost use Rattle.model.specs.Limited.{Limited};
+ghost use Rattle.facts.specs.Bounds.{LowWords};
 ghost use Rattle.decoded.specs.Decoded.{claims_from};
 ghost use Rattle.rows_and_places.specs.Points.{ClaimRows, Placed, point_in};
 ghost use Rattle.lost_claims.specs.Lost.{lost_judged};
@@ -23,7 +25,8 @@ use rows_and_places::places::{Places, claims_of, first_of};
 
 // The judgement by the first of n claims, from row from on, that does not follow.
 fn lost_judged(line: usize, rows: &[Row], from: usize, n: usize, known: &Known) -> Judgement
-    requires { ClaimRows rows.now from n × (from + n ≤ greatest_lines) }
+    requires claim_rows { ClaimRows rows.now from n × (from + n ≤ greatest_lines) }
+    requires lows { LowWords known.now.ranges }
     ensures { result ≡ lost_judged line (first_lost known.now (from + 1) (claims_from rows.now from n)) }
 {
     for j in 0..n {
@@ -59,4 +62,27 @@ pub fn claims_judged(
         return Ok(());
     }
     lost_judged(line, rows, first_of(at, t), n, edge)
+}
+
+// The same of an edge that may not be there: then nothing is owed.
+pub fn edge_judged(
+    rows: &[Row],
+    at: &Places,
+    there: bool,
+    t: usize,
+    line: usize,
+    e: Edge,
+    i: Instruction,
+    f: &PointFacts,
+    edge: &mut Known,
+) -> Judgement
+    requires placed { there ≡ true → Placed rows.now at.now t }
+    requires limited { Limited i }
+    ensures { result ≡ cond there (claims_judged line (facts_along today e i f.now) (point_in rows.now at.now t)) accepted }
+{
+    if there {
+        claims_judged(rows, at, t, line, e, i, f, edge)
+    } else {
+        Ok(())
+    }
 }

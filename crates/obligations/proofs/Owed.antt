@@ -90,23 +90,17 @@ module _ (rows : List Row) (at : List Place) (n p : ℕ) (holds : Holds rows at 
     pub by-safety : (r : Refusal) → safety_judged line f k ≡ Err r → Err r ≡ whole
     by-safety r e = sym (whole_is ∙ rw (← safe-is, e) refl)
 
-    next-is : goes_on k ≡ true → next ≡ claims_judged line (facts_along today Next k f) (point_in rows at (p + 1))
-    next-is on = ap (λ (b : Bool). cond b (edge Next (p + 1)) accepted) (ap goes_on (sym instruction) ∙ on) ∙ sym (edge-is Next (p + 1))
-
-    -- the claims of the next point follow, or there is none
-    pub next-follows : goes_on k ≡ true → claims_judged line (facts_along today Next k f) (point_in rows at (p + 1)) ≡ accepted → next ≡ accepted
-    next-follows on e = next-is on ∙ e
-
-    pub next-none : goes_on k ≡ false → next ≡ accepted
-    next-none off = ap (λ (b : Bool). cond b (edge Next (p + 1)) accepted) (ap goes_on (sym instruction) ∙ off)
+    -- 14 along the edge to the next point, where the code asks whether there is one
+    pub next-is : (b : Bool) → b ≡ goes_on k → cond b (claims_judged line (facts_along today Next k f) (point_in rows at (p + 1))) accepted ≡ next
+    next-is b on = ap (λ (c : Bool). cond c (claims_judged line (facts_along today Next k f) (point_in rows at (p + 1))) accepted) (on ∙ ap goes_on instruction) ∙ ap (λ (j : Judgement). cond (goes_on i) j accepted) (edge-is Next (p + 1))
 
     module _ (ok : safety_judged line f k ≡ accepted) where
       rest-is : whole ≡ (next and_then along (map Target (targets i)))
       rest-is = whole_is ∙ rw (← safe-is, ok) refl
 
       -- by the claims of the next point
-      pub by_next : goes_on k ≡ true → (r : Refusal) → claims_judged line (facts_along today Next k f) (point_in rows at (p + 1)) ≡ Err r → Err r ≡ whole
-      by_next on r e = sym (rest-is ∙ ap (λ (x : Judgement). x and_then along (map Target (targets i))) (next-is on ∙ e))
+      pub by_next : (r : Refusal) → next ≡ Err r → Err r ≡ whole
+      by_next r e = sym (rest-is ∙ ap (λ (x : Judgement). x and_then along (map Target (targets i))) e)
 
       module _ (follows : next ≡ accepted) where
         -- by nothing, where no target is named

@@ -10,7 +10,7 @@ use decoded::{instruction_from, target_from};
 use facts::known::Known;
 use facts::point::PointFacts;
 use line_rows::rows::Row;
-use lost_claims::claims_judged;
+use lost_claims::{claims_judged, edge_judged};
 use model::answers::Judgement;
 use model::machine::Edge;
 use reader::point_facts::facts_at;
@@ -35,9 +35,7 @@ fn owed_judged(
     let i = instruction_from(r);
     let line = line_of(at, p);
     safety_judged(line, f, i)?;
-    if goes_on(i) {
-        claims_judged(rows, at, p + 1, line, Edge::Next, i, f, edge)?;
-    }
+    edge_judged(rows, at, goes_on(i), p + 1, line, Edge::Next, i, f, edge)?;
     match target_from(r) {
         None => Ok(()),
         Some(t) => claims_judged(rows, at, t, line, Edge::Target(t), i, f, edge),

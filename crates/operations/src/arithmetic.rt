@@ -3,12 +3,14 @@ ghost use Rattle.std.specs.Prelude.{◌≡◌, ◌+◌, ◌*◌, ◌<◌, ◌≤
 ghost use Rattle.model.specs.Limits.{MAX};
 ghost use Rattle.model.specs.Machine as Machine;
 
-// The nearest whole quotient, a half going up, of values of registers. Its parts need more than 32 bits.
+// The nearest whole quotient of values of registers: the one rounded down, and one more where at least half of the divisor is left.
 pub fn nearest_quotient(x: u64, y: u64) -> u64
     requires { (x ≤ MAX) × (y ≤ MAX) × (0 < y) }
     ensures { result ≡ Machine.nearest_quotient x y }
 {
-    (2 * x + y) / (2 * y)
+    let whole = x / y;
+    let rest = x % y;
+    if y - rest <= rest { whole + 1 } else { whole }
 }
 
 // The nearest whole quotient of two registers, which a register holds.

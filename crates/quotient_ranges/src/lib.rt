@@ -4,6 +4,7 @@
 ghost use Rattle.std.specs.Prelude.{◌≡◌, ◌≤◌};
 ghost use Rattle.model.specs.Limits.{MAX};
 ghost use Rattle.model.specs.Transfer.{nearest_range, quotient_range, remainder_range};
+ghost use Rattle.facts.specs.Bounds.{Word};
 
 use facts::pair::Pair;
 use model::claims::Range;
@@ -12,6 +13,7 @@ use range_ends::below;
 
 // The range of a nearest quotient; nothing where the divisor is 0.
 pub fn nearest_range(p: Pair) -> Range
+    requires { Word p.r × Word p.q }
     ensures { (result ≡ nearest_range p.r p.q) × (result.hi ≤ MAX) }
 {
     if p.q.hi == 0 {
@@ -25,7 +27,7 @@ pub fn nearest_range(p: Pair) -> Range
 
 // The range of a quotient rounded down; nothing where the divisor is 0.
 pub fn quotient_range(p: Pair) -> Range
-    ensures { (result ≡ quotient_range p.r p.q) × (result.hi ≤ MAX) }
+    ensures { (result ≡ quotient_range p.r p.q) × (p.r.hi ≤ MAX → result.hi ≤ MAX) }
 {
     if p.q.hi == 0 {
         return Range::nothing();
@@ -36,7 +38,7 @@ pub fn quotient_range(p: Pair) -> Range
 
 // The range of a remainder, from 0 on: below the divisor, and at most what is divided.
 pub fn remainder_range(p: Pair) -> Range
-    ensures { (result ≡ remainder_range p.r p.q) × (result.hi ≤ MAX) }
+    ensures { (result ≡ remainder_range p.r p.q) × (p.r.hi ≤ MAX → result.hi ≤ MAX) }
 {
     below(p.q.hi, Range::between(0, p.r.hi))
 }

@@ -6,6 +6,7 @@ ghost use Rattle.model.specs.Limits.{MAX};
 ghost use Rattle.model.specs.Facts.{between, register_range};
 ghost use Rattle.model.specs.Machine.{bytes_of};
 ghost use Rattle.model.specs.Transfer.{sum_fits, sum_range, difference_fits, difference_range, product_fits, product_range};
+ghost use Rattle.facts.specs.Bounds.{Word};
 
 use facts::pair::Pair;
 use model::claims::Range;
@@ -14,6 +15,7 @@ use model::machine::Width;
 
 // Whether no sum of the two ranges wraps.
 pub fn sum_fits(p: Pair) -> bool
+    requires { Word p.r × Word p.q }
     ensures { result ≡ sum_fits p.r p.q }
 {
     p.r.hi + p.q.hi <= MAX
@@ -21,6 +23,7 @@ pub fn sum_fits(p: Pair) -> bool
 
 // The range of a sum.
 pub fn sum(p: Pair) -> Range
+    requires { Word p.r × Word p.q }
     ensures { (result ≡ cond (sum_fits p.r p.q) (sum_range p.r p.q) register_range) × (result.hi ≤ MAX) }
 {
     if sum_fits(p) {
@@ -40,7 +43,7 @@ pub fn difference_fits(p: Pair) -> bool
 // The range of a difference that does not wrap; nothing where its high end falls below 0.
 fn whole_difference(p: Pair) -> Range
     requires { p.q.hi ≤ p.r.lo }
-    ensures { (result ≡ difference_range p.r p.q) × (result.hi ≤ MAX) }
+    ensures { (result ≡ difference_range p.r p.q) × (p.r.hi ≤ MAX → result.hi ≤ MAX) }
 {
     if p.r.hi < p.q.lo {
         return Range::nothing();
@@ -50,7 +53,7 @@ fn whole_difference(p: Pair) -> Range
 
 // The range of a difference.
 pub fn difference(p: Pair) -> Range
-    ensures { (result ≡ cond (difference_fits p.r p.q) (difference_range p.r p.q) register_range) × (result.hi ≤ MAX) }
+    ensures { (result ≡ cond (difference_fits p.r p.q) (difference_range p.r p.q) register_range) × (p.r.hi ≤ MAX → result.hi ≤ MAX) }
 {
     if difference_fits(p) {
         whole_difference(p)
@@ -61,6 +64,7 @@ pub fn difference(p: Pair) -> Range
 
 // Whether no product of the two ranges wraps.
 pub fn product_fits(p: Pair) -> bool
+    requires { Word p.r × Word p.q }
     ensures { result ≡ product_fits p.r p.q }
 {
     p.r.hi * p.q.hi <= MAX
@@ -68,6 +72,7 @@ pub fn product_fits(p: Pair) -> bool
 
 // The range of a product.
 pub fn product(p: Pair) -> Range
+    requires { Word p.r × Word p.q }
     ensures { (result ≡ cond (product_fits p.r p.q) (product_range p.r p.q) register_range) × (result.hi ≤ MAX) }
 {
     if product_fits(p) {

@@ -5,8 +5,9 @@
 // broken off.
 #![tactic(auto)]
 
-ghost use Rattle.std.specs.Prelude.{◌≤◌, length, IsSome};
+ghost use Rattle.std.specs.Prelude.{◌≡◌, IsSome};
 ghost use Rattle.saved.specs.Numbers.{number_in};
+ghost use Rattle.saved.specs.States.{saved_in};
 
 use broken_off::{is_left_over, new_name_of, put_right};
 use file_run::run_of;
@@ -19,13 +20,20 @@ use saved::states::read_state;
 use streams::text::{Path, Text};
 use streams::{argument, argument_count, write};
 
-// Runs, saves and prints, and answers what is left of the new files.
-fn run_on(rt: HostRuntime, inputs: &Inputs) -> Left
-    requires { length inputs.now.results.now ≤ 65537 }
+// Runs, saves and prints, and answers what is left of the new files. The results that were read are lent twice: the run changes one of
+// them, since what is saved and printed is what the run makes of those that were read.
+fn run_on(rt: HostRuntime, inputs: &Inputs, results: &mut [u8]) -> Left
+    requires before_value { inputs.now.results.now ≡ results.old }
+    requires state_given { IsSome (saved_in inputs.now.state.now) }
+    requires budget_given { IsSome (number_in inputs.now.budget.now) }
 {
-    let mut room = [0; 65537];
-    let results = &mut room[..inputs.results.len()];
-    let made = run_of(inputs, results);
+    let made = run_of(
+        inputs.listing,
+        inputs.trays,
+        results,
+        inputs.state,
+        inputs.budget,
+    );
     if is_made(made.report) {
         let left = save(rt, inputs, results, &made.state);
         if left == Left::Nothing {
@@ -74,14 +82,16 @@ fn run_claimed(rt: HostRuntime, budget: &[u8]) -> Result<Left, Reported>
     }
     let mut results = Text::<65537>::empty();
     read_named(rt, 3, &mut results)?;
+    let before = results;
+    let n = results.length;
     let inputs = Inputs {
         listing: listing.as_bytes(),
         trays: trays.as_bytes(),
-        results: results.as_bytes(),
+        results: before.as_bytes(),
         state: state.as_bytes(),
         budget,
     };
-    Ok(run_on(rt, &inputs))
+    Ok(run_on(rt, &inputs, &mut results.bytes[..n]))
 }
 
 // The whole work with new files that are claimed. Where nothing was changed they are removed again.

@@ -1,13 +1,14 @@
 -- What a run makes of the bytes of its files: the run itself, the line that is printed, and what is saved.
-use Rattle.std.specs.Prelude.{ℕ, ◌≡◌, Bool, true, false, ◌||◌, cond, List, Option, Some, None, replicate, ltb, eqb}
+use Rattle.std.specs.Prelude.{ℕ, zero, suc, ◌+◌, ◌≡◌, Bool, true, false, ◌||◌, cond, List, Option, Some, None, length, set, replicate, ltb, eqb}
 use Rattle.model.specs.declared.answers.Report.{Report}
 use Rattle.model.specs.declared.answers.Report.TheVariants.{Stopped, Paused, Refused as refused_run}
 use Rattle.model.specs.declared.machine.State.{State}
 use Rattle.model.specs.Limits.{greatest_size, registers}
+use Rattle.model.specs.Listing.{line_at}
 use Rattle.model.specs.Machine.{lent}
 use Rattle.model.specs.Run.{Ran, run}
 use Rattle.saved.specs.Numbers.{number_in}
-use Rattle.saved.specs.States.{saved_in, text_of}
+use Rattle.saved.specs.States.{state_bytes, target_on, setting_on, saved_in, text_of}
 use Rattle.output.specs.RunLine.{answer_line}
 
 -- the steps that a budget allows; none where it is no number
@@ -15,14 +16,39 @@ abbrev pub steps_of : Option ℕ → ℕ
 steps_of (Some n) = n
 steps_of None = 0
 
--- the state that a run begins from; where the text is none, point 0 with registers of 0
-abbrev pub state_of : Option State → State
-state_of (Some s) = s
-state_of None = record { point = 0; registers = replicate registers 0 }
+-- one register more, where its line gives it a number
+abbrev pub with_given : List ℕ → ℕ → Option ℕ → List ℕ
+with_given rs v None = rs
+with_given rs v (Some c) = set rs v c
+
+-- the first registers as far as the lines of a text give them, the others 0; register v stands on line v + 2
+unfoldable pub given_to : List ℕ → ℕ → List ℕ
+unfolding setting_on
+given_to t zero = replicate registers 0
+given_to t (suc v) = with_given (given_to t v) v (setting_on (line_at t (v + 1)) v)
+
+-- point 0 with registers of 0
+abbrev pub nowhere : State
+nowhere = record { point = 0; registers = replicate registers 0 }
+
+-- the state of a point and the registers that are given
+abbrev pub state_at : Option ℕ → List ℕ → State
+state_at None rs = nowhere
+state_at (Some p) rs = record { point = p; registers = rs }
+
+-- what the lines of a text give of a state, where the text is none
+unfoldable pub given_in : List ℕ → State
+unfolding target_on given_to
+given_in t = cond (eqb (length t) state_bytes) (state_at (target_on (line_at t 0)) (given_to t registers)) nowhere
+
+-- the state that a run begins from: that of a text, and where the text is none, what its lines give
+abbrev pub state_of : Option State → List ℕ → State
+state_of (Some s) t = s
+state_of None t = given_in t
 
 -- the run of a listing over trays and results, from the state of a text, with the budget of an argument
 abbrev pub run_of : List ℕ → List ℕ → List ℕ → List ℕ → List ℕ → Ran
-run_of listing trays results text amount = run listing (state_of (saved_in text)) (lent trays results) (steps_of (number_in amount))
+run_of listing trays results text amount = run listing (state_of (saved_in text) text) (lent trays results) (steps_of (number_in amount))
 
 -- the line that is printed for a run
 abbrev pub line_of : Ran → List ℕ

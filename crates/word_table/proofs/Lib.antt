@@ -1,2 +1,3 @@
 pub mod AskedRows
 pub mod KeptNumbers
+pub mod SharedByWords

@@ -10,11 +10,11 @@ returns-then-n-eq0 c = edge_none c.args.line c.args.rows.now c.args.at.now c.arg
 pub returns-then-not-is_possible : goal.returns-then-not-is_possible
 returns-then-not-is_possible c =
     let a = c.args in
-    rw (← c.along.ensures) (edge-impossible a.line a.rows.now a.at.now a.t c.along.new.edge (sym (ap (λ (f : Facts). non_empty f.ranges) c.edge.view_is) ∙ sym c.is_possible.ensures ∙ c.if-not-is_possible.true))
+    rw (← c.along.ensures) (edge-impossible a.line a.rows.now a.at.now a.t c.along.new.edge (sym (ap (λ (f : Facts). non_empty f.ranges) c.edge.view_is) ∙ sym c.is_possible.ensures.0 ∙ c.if-not-is_possible.true))
 
 pub returns : goal.returns
 returns c =
     let a = c.args in
     let lost = rw (c.claims_of-n.ensures, c.first_of.ensures) at c.lost_judged.ensures in
-    let possible = sym (ap (λ (f : Facts). non_empty f.ranges) c.edge.view_is) ∙ sym c.is_possible.ensures ∙ c.if-not-is_possible.false in
+    let possible = sym (ap (λ (f : Facts). non_empty f.ranges) c.edge.view_is) ∙ sym c.is_possible.ensures.0 ∙ c.if-not-is_possible.false in
     rw (← c.along.ensures) (lost ∙ edge-possible a.line a.rows.now a.at.now a.t c.along.new.edge c.requires.placed.point.before possible)

@@ -3,6 +3,7 @@ use Rattle.std.proofs.Common.{◌≡◌, ◌+◌, ◌*◌, false, take}
 use Rattle.model.specs.Lists.{some}
 use Rattle.model.specs.Transfer.{stripe}
 use Rattle.model.specs.Follows as Model
+use Rattle.goal_search.specs.Goal as Goal
 use Rattle.goal_search.specs.Goal.{by_link}
 use Rattle.goal_search.proofs.within.+follows_linked_through.Given as goal
 
@@ -16,4 +17,4 @@ abbrev pub decreases-through : goal.decreases-through
 decreases-through l = 3 * l.left + 1
 
 abbrev pub invariant-linked-loop-l : goal.invariant-linked-loop-l
-invariant-linked-loop-l l = some (by_link (Model.follows l.edge.known.now l.left) (stripe l.x l.a l.y l.z l.plus l.minus)) (take l.l-index l.l-items) ≡ false
+invariant-linked-loop-l l = some (by_link (Goal.follows (Model.at_once l.edge.known.now) l.edge.links.now l.left) (stripe l.x l.a l.y l.z l.plus l.minus)) (take l.l-index l.l-items) ≡ false
