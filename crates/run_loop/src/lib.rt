@@ -1,8 +1,9 @@
 // The loop of a run: a listing that passes is run by the code of its points, and no step is tested.
 #![tactic(auto)]
 
-ghost use Rattle.std.specs.Prelude.{◌≡◌, take};
+ghost use Rattle.std.specs.Prelude.{◌≡◌, take, if◌then◌else◌};
 ghost use Rattle.model.specs.Types.{accepted};
+ghost use Rattle.model.specs.declared.answers.Report.TheVariants.{Stopped, Paused};
 ghost use Rattle.model.specs.Limits.{registers};
 ghost use Rattle.model.specs.Listing.{listing_of, points_of};
 ghost use Rattle.model.specs.Check.{listing_judged};
@@ -38,6 +39,17 @@ fn is_stop(instruction: &Instruction) -> bool
     matches!(*instruction, Instruction::Stop)
 }
 
+// How a run ends at an instruction where its budget is spent: STOP needs no step.
+fn report_at_budget(instruction: &Instruction) -> Report
+    ensures { result ≡ (if is_stop instruction.now then Stopped else Paused) }
+{
+    if is_stop(instruction) {
+        Report::Stopped
+    } else {
+        Report::Paused
+    }
+}
+
 // The run of a listing that passes, by the code of its points, from a state that nothing turns back.
 pub fn run_code(
     listing: &[u8],
@@ -55,17 +67,13 @@ pub fn run_code(
     let sizes = [trays.len(), results.len()];
     let mut values = values_of(start.registers, words(sizes));
     let mut point = start.point;
-    let mut made: u32 = 0;
-    // No `for`: the loop has two ends, and the steps made are reported at both.
-    loop {
+    for made in 0..budget {
         let instruction = &code[point];
+        // Right before the step, so that the compiled loop finds out with one jump whether it is STOP and which step to make.
         if is_stop(instruction) {
             return ended(Report::Stopped, point, values, made);
         }
-        if made == budget {
-            return ended(Report::Paused, point, values, made);
-        }
         point = step(instruction, point, &mut values, trays, results);
-        made += 1;
     }
+    ended(report_at_budget(&code[point]), point, values, budget)
 }
