@@ -5,10 +5,9 @@ mod answers;
 
 use answers::{claim_fails, fails, passes};
 use lines::listing;
-use reference::{check, read, run, step, step_bound, Outcome, Refusal, Run, State, Step};
+use reference::{check, read, run, step, step_bound, Outcome, Refusal, Run, State, Step, VARIABLES};
 
 const MAX: u64 = 4_294_967_295;
-const VARIABLES: usize = 18;
 
 /// The greatest value that a claim of the variable may name, and its unclaimed high end.
 fn greatest(v: usize) -> u64 {

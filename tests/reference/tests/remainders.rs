@@ -7,7 +7,7 @@ use answers::{claim_fails, fails, passes};
 use lines::listing;
 use reference::{
     check, claim_span, edges, printed, read, run, step, Instruction, Known, Operand, Outcome, Range, Refusal, Run,
-    State, Step, Stripe, Whole,
+    State, Step, Stripe, Whole, VARIABLES,
 };
 
 const MAX: u32 = u32::MAX;
@@ -272,7 +272,7 @@ fn an_access_by_the_remainder() {
 fn stripes_naming_either_register_go_and_others_stay() {
     let stripe = |x, y, z| Stripe { x, a: 1, y, z, b: -5 };
     // q is 1, i is 2, r is 3, o is 4
-    for v in 0..18 {
+    for v in 0..VARIABLES {
         let others = [stripe(v, 5, None), stripe(5, v, None), stripe(5, 6, Some(v)), stripe(v, v, Some(v))];
         for [q, i, r, o] in [[1, 2, 3, 4], [1, 1, 3, 4], [1, 3, 3, 4], [1, 2, 3, 1], [1, 2, 3, 3], [1, 3, 3, 1]] {
             let mut before = Known::nothing();

@@ -8,7 +8,7 @@ use crate::draft::{claim_line, instruction_line};
 use crate::random::Random;
 use crate::shrink::{is_claim, write};
 use lines::{listing, FIELDS, LINE};
-use reference::{Claim, Instruction};
+use reference::{Claim, Instruction, VARIABLES};
 
 type Damage = fn(&mut Random, &mut Vec<u8>);
 
@@ -178,7 +178,7 @@ fn order(random: &mut Random, text: &mut Vec<u8>) {
 }
 
 fn ends_in_claim(random: &mut Random, text: &mut Vec<u8>) {
-    let v = random.below(18);
+    let v = random.below(VARIABLES);
     let claim = pieces::claim(random, &[v, 17]);
     text.extend(claim_line(&claim));
 }
@@ -216,7 +216,7 @@ fn runs_off(random: &mut Random, text: &mut Vec<u8>) {
 
 fn empty_start(random: &mut Random, text: &mut Vec<u8>) {
     let claims = text.chunks(LINE).take_while(|line| is_claim(line)).count();
-    let v = random.below(18);
+    let v = random.below(VARIABLES);
     let hi = pieces::value_of(random, v) - 1;
     let (hi, lo) = (hi.max(0), (hi.max(0) + random.pick(&[1, 1, 2])).min(pieces::greatest(v)));
     let mut start = claim_line(&Claim::Least { v, value: lo }).to_vec();

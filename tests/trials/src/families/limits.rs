@@ -5,7 +5,7 @@ use crate::draft::{claim_line, instruction_line, Draft};
 use crate::random::Random;
 use crate::shrink::write;
 use lines::{listing, FIELDS, LINE};
-use reference::{Claim, Instruction, Stripe};
+use reference::{Claim, Instruction, Stripe, VARIABLES};
 
 /// A line of each word but DIVM and TURN that is right in every field.
 const MODELS: [&str; 15] = [
@@ -125,7 +125,7 @@ pub fn many_points(random: &mut Random) -> Vec<Vec<u8>> {
         };
         let point = draft.push(if at + 1 == count { Instruction::Stop } else { instruction });
         if random.percent(5) {
-            point.claim(Claim::Least { v: random.below(18), value: 0 });
+            point.claim(Claim::Least { v: random.below(VARIABLES), value: 0 });
         }
     }
     let mut text = draft.text();

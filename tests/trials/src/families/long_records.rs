@@ -9,7 +9,7 @@ use crate::draft::{Draft, DraftPoint};
 use crate::random::Random;
 use reference::{
     Arithmetic, Claim, Instruction, Limits, Operand, Stripe, Whole, MAX, REGISTERS, RESULTS_SIZE, SIZE_LIMIT,
-    TRAYS_SIZE,
+    TRAYS_SIZE, VARIABLES,
 };
 
 pub const SCALES: [Whole; 16] = [1, 2, 3, 16, 254, 255, 256, 257, 300, 511, 512, 1_000, 2_048, 4_094, 4_095, 4_095];
@@ -79,7 +79,7 @@ pub fn products(random: &mut Random) -> Vec<Vec<u8>> {
 /// A load or a store.
 fn accessing(random: &mut Random, table: usize, scale: Whole, i: usize, width: Whole, offset: Whole) -> Instruction {
     if table == 1 && random.percent(50) {
-        return Instruction::Store { stored: random.below(18), width, scale, i, offset };
+        return Instruction::Store { stored: random.below(VARIABLES), width, scale, i, offset };
     }
     Instruction::Load { d: random.below(REGISTERS), width, table: table as Whole, scale, i, offset }
 }

@@ -3,7 +3,7 @@
 use crate::draft::DraftPoint;
 use crate::random::Random;
 use reference::{
-    Arithmetic, Claim, Comparison, Instruction, Limits, Operand, Stripe, Whole, MAX, REGISTERS, SIZE_LIMIT,
+    Arithmetic, Claim, Comparison, Instruction, Limits, Operand, Stripe, Whole, MAX, REGISTERS, SIZE_LIMIT, VARIABLES,
 };
 
 const CORNERS: [Whole; 22] = [
@@ -82,7 +82,7 @@ pub fn width(random: &mut Random) -> Whole {
 pub fn pool(random: &mut Random) -> Vec<usize> {
     let mut pool = vec![random.below(REGISTERS)];
     for _ in 0..random.below(4) {
-        pool.push(random.below(18));
+        pool.push(random.below(VARIABLES));
     }
     if random.percent(50) {
         pool.push(random.pick(&[16, 17]));

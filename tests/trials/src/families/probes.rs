@@ -6,6 +6,7 @@ use crate::draft::{Draft, DraftPoint};
 use crate::random::Random;
 use reference::{
     edges, Arithmetic, Claim, Edge, Instruction, Known, Limits, Operand, Stripe, Whole, RESULTS_SIZE, TRAYS_SIZE,
+    VARIABLES,
 };
 
 /// Random claims, a random instruction, and after it claims at, below and above what follows.
@@ -258,7 +259,7 @@ pub fn access(random: &mut Random) -> Vec<Vec<u8>> {
     let beside = random.pick(&[0, 0, 0, 1, -1, -1]);
     let mut draft = Draft::default();
     let point = draft.push(if table == 1 && random.percent(50) {
-        Instruction::Store { stored: random.below(18), width, scale: a, i, offset }
+        Instruction::Store { stored: random.below(VARIABLES), width, scale: a, i, offset }
     } else {
         Instruction::Load { d: 3, width, table, scale: a, i, offset }
     });

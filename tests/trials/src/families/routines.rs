@@ -7,7 +7,7 @@ use crate::random::Random;
 use reference::refusals::{ACCESS_MAY_LEAVE, CLAIM_DOES_NOT_FOLLOW, DIVISOR_MAY_BE_ZERO, EMPTY_START};
 use reference::{
     check, edges, Arithmetic, Claim, Comparison, Instruction, Known, Limits, Operand, Stripe, Whole, RESULTS_SIZE,
-    TRAYS_SIZE,
+    TRAYS_SIZE, VARIABLES,
 };
 
 /// The index and the count of a routine's loops come first among its registers.
@@ -161,7 +161,7 @@ fn step(random: &mut Random, draft: &mut Draft, scratch: &[usize], kept: &[Claim
             push(draft, Instruction::Set { d: random.pick(scratch), number }, kept);
         }
         2 | 3 => {
-            let i = if random.percent(80) { random.pick(scratch) } else { random.below(18) };
+            let i = if random.percent(80) { random.pick(scratch) } else { random.below(VARIABLES) };
             push(draft, Instruction::Copy { d: random.pick(scratch), i }, kept);
         }
         _ => push(draft, calculation(random, scratch), kept),
