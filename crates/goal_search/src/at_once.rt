@@ -49,13 +49,50 @@ fn stands(known: &Known, x: u64, a: u16, y: u64, z: u64, plus: u64, minus: u64) 
         .any(|s| covers(s, x, a, y, z, plus, minus))
 }
 
-// Whether the goal follows with no link.
-pub fn at_once(known: &Known, x: u64, a: u16, y: u64, z: u64, plus: u64, minus: u64) -> bool
+// Whether the goal follows with no link, where the low end of its x is a value of a register.
+pub fn at_once_with_low_word(
+    known: &Known,
+    x: u64,
+    a: u16,
+    y: u64,
+    z: u64,
+    plus: u64,
+    minus: u64,
+) -> bool
     requires low { lo known.now.ranges x ≤ MAX }
     requires room { Room 0 (stripe x a y z plus minus) }
     ensures { result ≡ Model.at_once known.now (stripe x a y z plus minus) }
 {
     if by_ranges(known, x, a, y, z, plus, minus) {
+        return true;
+    }
+    stands(known, x, a, y, z, plus, minus)
+}
+
+// Whether the ranges alone show the goal, with any low end. A sum with it could leave 64 bits, so minus is taken off the other side.
+fn by_ranges_from_any_low(
+    known: &Known,
+    x: u64,
+    a: u16,
+    y: u64,
+    z: u64,
+    plus: u64,
+    minus: u64,
+) -> bool
+    requires { Room 0 (stripe x a y z plus minus) }
+    ensures { result ≡ Model.by_ranges known.now.ranges (stripe x a y z plus minus) }
+{
+    let top = known.ranges.get(y as usize).hi + known.ranges.get(z as usize).hi;
+    let most = scaled(a, top) + plus;
+    most.saturating_sub(minus) <= known.ranges.get(x as usize).lo
+}
+
+// Whether the goal follows with no link, with any low end.
+pub fn at_once(known: &Known, x: u64, a: u16, y: u64, z: u64, plus: u64, minus: u64) -> bool
+    requires { Room 0 (stripe x a y z plus minus) }
+    ensures { result ≡ Model.at_once known.now (stripe x a y z plus minus) }
+{
+    if by_ranges_from_any_low(known, x, a, y, z, plus, minus) {
         return true;
     }
     stands(known, x, a, y, z, plus, minus)

@@ -2,4 +2,6 @@
 #![tactic(auto)]
 
 pub mod at_once;
+#[cfg(test)]
+mod tests;
 pub mod within;

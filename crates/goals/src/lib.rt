@@ -2,3 +2,5 @@
 #![tactic(auto)]
 
 pub mod follows;
+#[cfg(test)]
+mod tests;

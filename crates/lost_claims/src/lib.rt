@@ -17,7 +17,7 @@ use decoded::claim_at;
 use domain::along;
 use facts::known::Known;
 use facts::point::PointFacts;
-use goals::follows::claim_follows;
+use goals::follows::claim_follows_with_low_words;
 use line_rows::rows::Row;
 use model::answers::{Judgement, Refusal};
 use model::machine::{Edge, Instruction};
@@ -31,7 +31,7 @@ fn lost_judged(line: usize, rows: &[Row], from: usize, n: usize, known: &Known) 
 {
     for j in 0..n {
         let k = from + j;
-        if !claim_follows(known, claim_at(rows, k)) {
+        if !claim_follows_with_low_words(known, claim_at(rows, k)) {
             return Err(Refusal::ClaimMayFail { line, claim: k + 1 });
         }
     }

@@ -94,13 +94,24 @@ module _ (rows : List Row) (at : List Place) (n p : ℕ) (holds : Holds rows at 
     pub next-is : (b : Bool) → b ≡ goes_on k → cond b (claims_judged line (facts_along today Next k f) (point_in rows at (p + 1))) accepted ≡ next
     next-is b on = ap (λ (c : Bool). cond c (claims_judged line (facts_along today Next k f) (point_in rows at (p + 1))) accepted) (on ∙ ap goes_on instruction) ∙ ap (λ (j : Judgement). cond (goes_on i) j accepted) (edge-is Next (p + 1))
 
+    -- where there is one, its claims follow
+    pub next-follows : goes_on k ≡ true → claims_judged line (facts_along today Next k f) (point_in rows at (p + 1)) ≡ accepted → next ≡ accepted
+    next-follows on e = sym (next-is true (sym on)) ∙ e
+
+    pub next-none : goes_on k ≡ false → next ≡ accepted
+    next-none off = sym (next-is false (sym off))
+
     module _ (ok : safety_judged line f k ≡ accepted) where
       rest-is : whole ≡ (next and_then along (map Target (targets i)))
       rest-is = whole_is ∙ rw (← safe-is, ok) refl
 
+      -- by the edge to the next point
+      pub by_next_edge : (r : Refusal) → next ≡ Err r → Err r ≡ whole
+      by_next_edge r e = sym (rest-is ∙ ap (λ (x : Judgement). x and_then along (map Target (targets i))) e)
+
       -- by the claims of the next point
-      pub by_next : (r : Refusal) → next ≡ Err r → Err r ≡ whole
-      by_next r e = sym (rest-is ∙ ap (λ (x : Judgement). x and_then along (map Target (targets i))) e)
+      pub by_next : goes_on k ≡ true → (r : Refusal) → claims_judged line (facts_along today Next k f) (point_in rows at (p + 1)) ≡ Err r → Err r ≡ whole
+      by_next on r e = by_next_edge r (sym (next-is true (sym on)) ∙ e)
 
       module _ (follows : next ≡ accepted) where
         -- by nothing, where no target is named

@@ -96,6 +96,9 @@ module _ (ps : List Point) (sizes : List ℕ) (b : ℕ) (c₀ : Config) where
         let all : steps + (b - steps) ≡ b = let w = g.within in omega arith in
         ended_here true e (rw all at (stays steps (b - steps) (config p vs t) g.came (stop_step e)))
 
+    pub paused-here : is_stop i ≡ false → steps ≡ b → finished ps (run_for ps b c₀) ≡ record { outcome = outcome Paused (state p (take registers vs)) steps; tables = t }
+    paused-here e q = ended_here false e (ap (λ (k : ℕ). run_for ps k c₀) (sym q) ∙ g.came)
+
     pub spent-here : steps ≡ b → finished ps (run_for ps b c₀) ≡ record { outcome = outcome (cond (is_stop i) Stopped Paused) (state p (take registers vs)) b; tables = t }
     spent-here q = ended_here (is_stop i) refl (ap (λ (k : ℕ). run_for ps k c₀) (sym q) ∙ g.came)
         ∙ ap (λ (n : ℕ). record { outcome = outcome (cond (is_stop i) Stopped Paused) (state p (take registers vs)) n; tables = t }) q

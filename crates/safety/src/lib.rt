@@ -14,7 +14,7 @@ ghost use Rattle.model.specs.Limited.{AccessLimited, Limited};
 
 use facts::point::PointFacts;
 use facts::sizes::scaled;
-use goals::follows::goal_follows;
+use goals::follows::goal_follows_with_low_words;
 use model::answers::{Judgement, Refusal};
 use model::claims::Stripe;
 use model::limits::{BLANK_VARIABLE, RESULTS_SIZE, TRAYS_SIZE};
@@ -72,7 +72,7 @@ fn safe_by_goal(f: &PointFacts, access: Access) -> bool
         plus: k as u64 + bytes(w),
         minus: 0,
     };
-    goal_follows(f.known(), g)
+    goal_follows_with_low_words(f.known(), g)
 }
 
 // Whether the access lies inside its table.

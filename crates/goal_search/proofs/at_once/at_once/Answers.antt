@@ -9,4 +9,4 @@ use Rattle.goal_search.proofs.at_once.at_once.Goals as goal
 pub returns : goal.returns
 returns c =
     let a = c.args in
-    rw (← c.by_ranges.ensures, c.if-by_ranges.false) (c.stands.ensures ∙ any-some (λ (s : Stripe). covers s (stripe a.x a.a a.y a.z a.plus a.minus)) a.known.now.stripes)
+    rw (← c.by_ranges_from_any_low.ensures, c.if-by_ranges_from_any_low.false) (c.stands.ensures ∙ any-some (λ (s : Stripe). covers s (stripe a.x a.a a.y a.z a.plus a.minus)) a.known.now.stripes)

@@ -18,35 +18,35 @@ use Rattle.goal_search.proofs.within.+follows_linked_through.Goals.{linked-then-
 abbrev rest : Facts → List Stripe → ℕ → Stripe → Bool
 rest f links left = Goal.follows (at_once f) links left
 
-pub follows-returns-then-at_once-clause-by_links : goal.follows-returns-then-at_once-clause-by_links
-follows-returns-then-at_once-clause-by_links t c =
+pub follows_with_low_word-returns-then-at_once_with_low_word-clause-by_links : goal.follows_with_low_word-returns-then-at_once_with_low_word-clause-by_links
+follows_with_low_word-returns-then-at_once_with_low_word-clause-by_links t c =
     let a = c.args in
-    cases.follows-once (at_once a.edge.now.known.now) a.edge.now.links.now (stripe a.x a.a a.y a.z a.plus a.minus) a.left (sym c.at_once.ensures ∙ c.if-at_once.true)
+    cases.follows-once (at_once a.edge.now.known.now) a.edge.now.links.now (stripe a.x a.a a.y a.z a.plus a.minus) a.left (sym c.at_once_with_low_word.ensures ∙ c.if-at_once_with_low_word.true)
 
-pub follows-returns-then-at_once-clause-gathered : goal.follows-returns-then-at_once-clause-gathered
-follows-returns-then-at_once-clause-gathered t c gathered =
+pub follows_with_low_word-returns-then-at_once_with_low_word-clause-gathered : goal.follows_with_low_word-returns-then-at_once_with_low_word-clause-gathered
+follows_with_low_word-returns-then-at_once_with_low_word-clause-gathered t c gathered =
     let a = c.args in
-    follows-returns-then-at_once-clause-by_links t c ∙ follows-agrees a.edge.now.known.now a.edge.now.links.now gathered a.left (stripe a.x a.a a.y a.z a.plus a.minus)
+    follows_with_low_word-returns-then-at_once_with_low_word-clause-by_links t c ∙ follows-agrees a.edge.now.known.now a.edge.now.links.now gathered a.left (stripe a.x a.a a.y a.z a.plus a.minus)
 
-pub follows-returns-then-left-eq0-clause-by_links : goal.follows-returns-then-left-eq0-clause-by_links
-follows-returns-then-left-eq0-clause-by_links t c =
+pub follows_with_low_word-returns-then-left-eq0-clause-by_links : goal.follows_with_low_word-returns-then-left-eq0-clause-by_links
+follows_with_low_word-returns-then-left-eq0-clause-by_links t c =
     let a = c.args in
-    cases.follows-none (at_once a.edge.now.known.now) a.edge.now.links.now (stripe a.x a.a a.y a.z a.plus a.minus) a.left c.if-left-eq0.true (sym c.at_once.ensures ∙ c.if-at_once.false)
+    cases.follows-none (at_once a.edge.now.known.now) a.edge.now.links.now (stripe a.x a.a a.y a.z a.plus a.minus) a.left c.if-left-eq0.true (sym c.at_once_with_low_word.ensures ∙ c.if-at_once_with_low_word.false)
 
-pub follows-returns-then-left-eq0-clause-gathered : goal.follows-returns-then-left-eq0-clause-gathered
-follows-returns-then-left-eq0-clause-gathered t c gathered =
+pub follows_with_low_word-returns-then-left-eq0-clause-gathered : goal.follows_with_low_word-returns-then-left-eq0-clause-gathered
+follows_with_low_word-returns-then-left-eq0-clause-gathered t c gathered =
     let a = c.args in
-    follows-returns-then-left-eq0-clause-by_links t c ∙ follows-agrees a.edge.now.known.now a.edge.now.links.now gathered a.left (stripe a.x a.a a.y a.z a.plus a.minus)
+    follows_with_low_word-returns-then-left-eq0-clause-by_links t c ∙ follows-agrees a.edge.now.known.now a.edge.now.links.now gathered a.left (stripe a.x a.a a.y a.z a.plus a.minus)
 
-pub follows-returns-clause-by_links : goal.follows-returns-clause-by_links
-follows-returns-clause-by_links t c =
+pub follows_with_low_word-returns-clause-by_links : goal.follows_with_low_word-returns-clause-by_links
+follows_with_low_word-returns-clause-by_links t c =
     let a = c.args in
-    c.linked.ensures ∙ cases.follows-linked (at_once a.edge.now.known.now) a.edge.now.links.now (stripe a.x a.a a.y a.z a.plus a.minus) a.left c.if-left-eq0.false (sym c.at_once.ensures ∙ c.if-at_once.false)
+    c.linked.ensures ∙ cases.follows-linked (at_once a.edge.now.known.now) a.edge.now.links.now (stripe a.x a.a a.y a.z a.plus a.minus) a.left c.if-left-eq0.false (sym c.at_once_with_low_word.ensures ∙ c.if-at_once_with_low_word.false)
 
-pub follows-returns-clause-gathered : goal.follows-returns-clause-gathered
-follows-returns-clause-gathered t c gathered =
+pub follows_with_low_word-returns-clause-gathered : goal.follows_with_low_word-returns-clause-gathered
+follows_with_low_word-returns-clause-gathered t c gathered =
     let a = c.args in
-    follows-returns-clause-by_links t c ∙ follows-agrees a.edge.now.known.now a.edge.now.links.now gathered a.left (stripe a.x a.a a.y a.z a.plus a.minus)
+    follows_with_low_word-returns-clause-by_links t c ∙ follows-agrees a.edge.now.known.now a.edge.now.links.now gathered a.left (stripe a.x a.a a.y a.z a.plus a.minus)
 
 pub linked-loop-l-init : goal.linked-loop-l-init
 unfolding some
@@ -83,5 +83,5 @@ through-returns-then-v-y t c =
     let f = a.edge.now.known.now in
     let g = stripe a.x a.a a.y a.z a.plus a.minus in
     let turns = follows-turned a.x a.a (at_once f) (once-turned a.x a.a f) a.edge.now.links.now a.left in
-    let moved = rw (c.scaled.ensures.0, c.scaled-2.ensures.0) at c.follows.ensures.by_links in
+    let moved = rw (c.scaled.ensures.0, c.scaled-2.ensures.0) at c.follows_with_low_word.ensures.by_links in
     moved ∙ cases.by-y (rest f a.edge.now.links.now a.left) g a.l.now c.if-v-y.true (either-place (rest f a.edge.now.links.now a.left) g a.l.now turns)

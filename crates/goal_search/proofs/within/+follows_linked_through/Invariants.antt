@@ -7,8 +7,8 @@ use Rattle.goal_search.specs.Goal as Goal
 use Rattle.goal_search.specs.Goal.{by_link}
 use Rattle.goal_search.proofs.within.+follows_linked_through.Given as goal
 
-abbrev pub decreases-follows : goal.decreases-follows
-decreases-follows l = 3 * l.left
+abbrev pub decreases-follows_with_low_word : goal.decreases-follows_with_low_word
+decreases-follows_with_low_word l = 3 * l.left
 
 abbrev pub decreases-linked : goal.decreases-linked
 decreases-linked l = 3 * l.left + 2

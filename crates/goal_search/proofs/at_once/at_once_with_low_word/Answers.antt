@@ -1,0 +1,12 @@
+-- The stripes are asked where the ranges alone do not show the goal. Assumes nothing.
+use Rattle.std.proofs.Common.{◌∙◌}
+use Rattle.model.specs.declared.claims.Stripe.{Stripe}
+use Rattle.model.specs.Transfer.{stripe}
+use Rattle.model.specs.Follows.{covers}
+use Rattle.goal_search.proofs.SomeElement.{any-some}
+use Rattle.goal_search.proofs.at_once.at_once_with_low_word.Goals as goal
+
+pub returns : goal.returns
+returns c =
+    let a = c.args in
+    rw (← c.by_ranges.ensures, c.if-by_ranges.false) (c.stands.ensures ∙ any-some (λ (s : Stripe). covers s (stripe a.x a.a a.y a.z a.plus a.minus)) a.known.now.stripes)
