@@ -1,5 +1,6 @@
 // Goals and claims of a variable whose low end lies above every value of a register, as along an edge that is not possible.
 ghost use Rattle.std.specs.Prelude.{◌≡◌};
+ghost use Rattle.model.specs.Limits.{blank_variable};
 ghost use Rattle.model.specs.Transfer.{stripe};
 
 use crate::follows::{claim_follows, goal_follows};
@@ -9,7 +10,7 @@ use model::limits::{BLANK_VARIABLE, MAX};
 
 // That variable x is at least variable y and so much.
 fn above(x: u8, y: u8, plus: u64) -> Stripe
-    ensures { result ≡ stripe x 1 y 18 plus 0 }
+    ensures { result ≡ stripe x 1 y blank_variable plus 0 }
 {
     Stripe {
         x,

@@ -4,9 +4,9 @@ use Rattle.model.specs.declared.claims.Stripe.{Stripe}
 use Rattle.model.specs.Transfer.{stripe}
 use Rattle.model.specs.Follows.{covers}
 use Rattle.goal_search.proofs.SomeElement.{any-some}
-use Rattle.goal_search.proofs.at_once.at_once_with_low_word.Goals as goal
+use Rattle.goal_search.proofs.at_once.shown.Goals as goal
 
 pub returns : goal.returns
-returns c =
+returns g c =
     let a = c.args in
-    rw (← c.by_ranges.ensures, c.if-by_ranges.false) (c.stands.ensures ∙ any-some (λ (s : Stripe). covers s (stripe a.x a.a a.y a.z a.plus a.minus)) a.known.now.stripes)
+    rw (← c.ranges_show.ensures, c.if-ranges_show.false) (c.stands.ensures ∙ any-some (λ (s : Stripe). covers s (stripe a.x a.a a.y a.z a.plus a.minus)) a.known.now.stripes)
