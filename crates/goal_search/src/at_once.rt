@@ -40,7 +40,7 @@ fn by_ranges_from_any_low(
     most.saturating_sub(minus) <= known.ranges.get(x as usize).lo
 }
 
-// Whether the ranges alone show the goal, by the test that its low end allows.
+// Whether the ranges alone show the goal, by the one of the two tests that the low end of its x allows.
 fn ranges_show<const ANY_LOW: bool>(
     known: &Known,
     x: u64,

@@ -118,7 +118,8 @@ pub fn follows_with_low_word(
     search::<false>(edge, x, a, y, z, plus, minus, left)
 }
 
-// Whether the goal follows within `left` uses of the links that are lent, with any low end.
+// Whether the goal follows within `left` uses of the links that are lent, with any low end. Where these are the links among the stripes, that
+// is whether it follows from what is known.
 pub fn follows(
     edge: &Linked,
     x: u64,

@@ -1,4 +1,4 @@
-//! How many sub-goals one goal can cost at most: the calls of `follows_with_low_word` where nothing follows.
+//! How many sub-goals one goal can cost at most: the calls of `goal_search::within::search` where nothing follows.
 //! A link leads from the variable that it replaces to the one that it puts there; one is kept for each ordered pair.
 //! Variables with no link from them are alike, so a set of links is given by the links among the variables that have
 //! some, and by how many more links each of these has. Every such set with at most SOURCES variables is tried;
